@@ -1,0 +1,9 @@
+pub mod Answer
+pub mod Fault
+pub mod Format
+pub mod Listing
+pub mod Outcome
+pub mod Question
+pub mod Read
+pub mod Step
+pub mod Visit
