@@ -1,4 +1,6 @@
 // Lists the tables of files, each file as a tree.
+#![tactic(auto)]
+
 mod columns;
 mod drawing;
 mod failures;
@@ -11,6 +13,7 @@ use crate::failures::Failure;
 use std::alloc::Global;
 use std::fs::File;
 use std::io::Read;
+use std::process::ExitCode;
 use std::{env, io};
 use tables::{Limits, MAX_BYTES, Record};
 
@@ -145,11 +148,11 @@ fn run(rt: &HostRuntime) -> Result<(), Failure> {
     }
 }
 
-fn main(rt: HostRuntime) -> Result<(), Failure> {
-    let outcome = run(&rt);
-    match &outcome {
-        Ok(()) | Err(Failure::NotListed) => {}
+fn main(rt: HostRuntime) -> io::Result<ExitCode> {
+    match run(&rt) {
+        Ok(()) => return Ok(ExitCode::SUCCESS),
+        Err(Failure::NotListed) => {}
         Err(failure) => eprintln!(rt; "raytree: {failure}")?,
     }
-    outcome
+    Ok(ExitCode::FAILURE)
 }

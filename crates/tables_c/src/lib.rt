@@ -1,3 +1,6 @@
+// Entry points for C: verifying bytes, and walking the tables that verified bytes hold.
+#![tactic(auto)]
+
 ghost use Rattle.std.specs.Prelude.{◌≡◌, length, Ok as Answered};
 ghost use Rattle.tables.specs.Answer.{table_at, metadata_at, segments_at};
 ghost use Rattle.tables_c.specs.Tell.{told, last_of, told_of};

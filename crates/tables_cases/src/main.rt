@@ -1,6 +1,8 @@
 // Compares what the library answers with what the cases of standard input expect. A line holds a case: its name, the limits of
 // levels and of tables, the number of records, the expected answer (of two very long lists of tables only how it begins) and the bytes.
 // Lines that begin with `#` explain the next cases. `make_cases.py` writes these lines, and says more on their form.
+#![tactic(auto)]
+
 mod answers;
 mod cases;
 mod questions;

@@ -6,7 +6,7 @@ use Rattle.tables.specs.declared.records.Table.{Table}
 use Rattle.tables.specs.declared.records.Record.{Record}
 use Rattle.raytree.specs.Greatest.{number_of, greatest}
 use Rattle.raytree.proofs.columns.greatest_of.Goals as goal
-use Rattle.raytree.proofs.columns.greatest_of.Goals.{in-Some, in-default}
+use Rattle.raytree.proofs.columns.greatest_of.Goals.{in-Some, in_default}
 
 -- One record more.
 more : (f : Table → ℕ) (records : List (Option (Record ℕ))) (i n : ℕ) (slot : Option (Record ℕ))
@@ -34,11 +34,11 @@ loop-slot-preserved c =
         ap (λ g. g.encoding) w.greatest-is ∙ w.max-in-Some-2.ensures ∙ more (λ t. t.encoding) records i _ _ lt w.in-Some.is inv.2,
         ap (λ g. g.rows) w.greatest-is ∙ w.max-in-Some-3.ensures ∙ more (λ t. t.rows) records i _ _ lt w.in-Some.is inv.3,
       )
-      | in-default w ↦ (
-        ap (λ g. g.depth) w.greatest-is ∙ same (λ t. t.depth) records i _ lt w.in-default.is inv.0,
-        ap (λ g. g.place) w.greatest-is ∙ same (λ t. t.place) records i _ lt w.in-default.is inv.1,
-        ap (λ g. g.encoding) w.greatest-is ∙ same (λ t. t.encoding) records i _ lt w.in-default.is inv.2,
-        ap (λ g. g.rows) w.greatest-is ∙ same (λ t. t.rows) records i _ lt w.in-default.is inv.3,
+      | in_default w ↦ (
+        ap (λ g. g.depth) w.greatest-is ∙ same (λ t. t.depth) records i _ lt w.in_default.is inv.0,
+        ap (λ g. g.place) w.greatest-is ∙ same (λ t. t.place) records i _ lt w.in_default.is inv.1,
+        ap (λ g. g.encoding) w.greatest-is ∙ same (λ t. t.encoding) records i _ lt w.in_default.is inv.2,
+        ap (λ g. g.rows) w.greatest-is ∙ same (λ t. t.rows) records i _ lt w.in_default.is inv.3,
       )
     ]
 
