@@ -4,4 +4,4 @@ use Rattle.tables_c.proofs.sum_tables.Goals as goal
 
 pub loop-number-preserved : goal.loop-number-preserved
 loop-number-preserved c =
-    sum_to_more (table_sum c.args.bytes.now c.args.records.now) c.loop-number.number c.loop-number.sum c.sum-table-sum.result c.loop-number.invariant c.sum-table-sum.ensures
+    sum_to_more (table_sum c.args.bytes.now c.args.records.now) c.loop-number.number c.loop-number.sum c.sum_table-sum.result c.loop-number.invariant c.sum_table-sum.ensures
