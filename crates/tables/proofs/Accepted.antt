@@ -1,18 +1,17 @@
 -- Bytes are accepted exactly when a layout stands at the root within limits and records, and the records then hold it.
-use Rattle.std.proofs.Common.{◌≡◌, ℕ, zero, suc, ◌+◌, ◌-◌, ◌<◌, ◌≤◌, Bool, true, false, ◌&&◌, leb, List, [], ◌∷◌, ◌++◌, map, length, get_or, take, replicate, Some, None, Ok, Err, Option, Result, sym, refl, ap, ◌∙◌, subst, arith}
+use Rattle.std.proofs.Common.{◌≡◌, ℕ, zero, suc, ◌+◌, ◌-◌, ◌≤◌, true, ◌&&◌, leb, List, [], ◌∷◌, ◌++◌, map, length, take, replicate, None, Ok, Err, Option, Result, sym, refl, ap, ◌∙◌, subst, arith}
 use Rattle.std.proofs.lemmas.Bool.{leb-true, le-leb, and_parts, and_from}
 use Rattle.tables.specs.declared.faults.Fault.{Fault}
 use Rattle.tables.specs.declared.faults.Fault.TheVariants.{TooLong, BadLimit}
-use Rattle.tables.specs.declared.faults.Missing.{Missing}
 use Rattle.tables.specs.declared.faults.Missing.TheVariants as missing
 use Rattle.tables.specs.declared.records.Limits.{Limits}
 use Rattle.tables.specs.declared.records.Table.{Table}
 use Rattle.tables.specs.declared.records.Record.{Record}
-use Rattle.tables.specs.Outcome.{◌>>=◌, ◌>>◌, need}
-use Rattle.tables.specs.Answer.{held, table_at}
+use Rattle.tables.specs.Outcome.{◌>>=◌}
+use Rattle.tables.specs.Answer.{table_at}
 use Rattle.tables.specs.Read.{forward}
 use Rattle.tables.specs.Format.{Layout, Root, Stands, size, height}
-use Rattle.tables.specs.Listing.{Lists, row_at, Holds, InRange, Within, Verified}
+use Rattle.tables.specs.Listing.{row_at, InRange, Verified}
 use Rattle.tables.specs.Step.{Kept}
 use Rattle.tables.specs.Visit.{visit, visited, top, found, recorded, counted, fresh}
 use Rattle.tables.proofs.Binds.{bind_ok, need_ok}

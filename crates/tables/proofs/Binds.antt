@@ -1,5 +1,5 @@
 -- Steps in a row, regrouped.
-use Rattle.std.proofs.Common.{◌≡◌, ℕ, Bool, true, false, Ok, Err, Result, sym, refl, ap, ◌∙◌, arith}
+use Rattle.std.proofs.Common.{◌≡◌, ℕ, Bool, true, false, Ok, Err, Result, refl, arith}
 use Rattle.tables.specs.declared.faults.Fault.{Fault}
 use Rattle.tables.specs.Outcome.{◌>>=◌, ◌>>◌, need}
 

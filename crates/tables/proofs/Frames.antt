@@ -1,5 +1,5 @@
 -- The visit by a stack of frames: finishing the frames from what is found so far comes to the visit of all tables.
-use Rattle.std.proofs.Common.{◌≡◌, ℕ, zero, suc, ◌+◌, ◌-◌, ◌<◌, ◌≤◌, Bool, true, false, cond, ltb, leb, ◌≢◌, List, [], ◌∷◌, ◌++◌, length, get_or, set, Some, None, Ok, Err, Option, Result, sym, refl, ap, ◌∙◌, append_assoc, append-nil, add-one, arith, length-append, length-set}
+use Rattle.std.proofs.Common.{◌≡◌, ℕ, zero, suc, ◌+◌, ◌-◌, ◌<◌, ◌≤◌, Bool, true, false, ltb, leb, ◌≢◌, List, [], ◌∷◌, ◌++◌, length, get_or, set, Some, None, Ok, Err, Option, Result, sym, refl, ap, ◌∙◌, append_assoc, append-nil, arith, length-append, length-set}
 use Rattle.std.proofs.lemmas.List.{set_at, get_or_at, length_push, get_or-set_same, get_or-set_other}
 use Rattle.std.proofs.lemmas.Bool.{le-leb, lt-leb}
 use Rattle.tables.specs.declared.faults.Fault.{Fault}
@@ -13,7 +13,7 @@ use Rattle.tables.specs.declared.visit.Spot.{Spot}
 use Rattle.tables.specs.Outcome.{◌>>=◌, ◌>>◌, need}
 use Rattle.tables.specs.Read.{vtable, entry, scalar, vector, forward}
 use Rattle.tables.specs.Step.{opened, fields, part_or, fault_of, closed, stepped}
-use Rattle.tables.specs.Visit.{visit, below, children, visited}
+use Rattle.tables.specs.Visit.{visit, below, children}
 use Rattle.tables.proofs.Binds.{bind_assoc, bind_same}
 
 -- A fault that was kept for later.

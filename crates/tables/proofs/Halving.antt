@@ -1,12 +1,12 @@
 -- The search for the k-th child of the table of number n, by halving the numbers below it.
-use Rattle.std.proofs.Common.{◌≡◌, ℕ, zero, suc, ◌+◌, ◌<◌, ◌≤◌, max, cond, ltb, ◌⊎◌, List, Some, None, Ok, Err, Option, Result, sym, refl, ap, ◌∙◌, subst, inl, inr, arith}
+use Rattle.std.proofs.Common.{◌≡◌, ℕ, zero, suc, ◌+◌, ◌<◌, ◌≤◌, max, ltb, List, Some, None, Ok, Err, Option, Result, sym, refl, ap, ◌∙◌, subst, inl, inr, arith}
 use Rattle.std.proofs.lemmas.Bool.{cond-true, cond-false, lt-ltb, le-ltb}
 use Rattle.tables.specs.declared.faults.Missing.{Missing}
 use Rattle.tables.specs.declared.faults.Missing.TheVariants as missing
 use Rattle.tables.specs.declared.records.Table.{Table}
 use Rattle.tables.specs.declared.records.Record.{Record}
 use Rattle.tables.specs.Answer.{table_at}
-use Rattle.tables.specs.Format.{Layout, Layouts, size, sizes}
+use Rattle.tables.specs.Format.{Layout, Layouts, sizes}
 use Rattle.tables.specs.Listing.{many, Holds}
 use Rattle.tables.specs.Question.{layout_at, spot_at, TellsOf, before, Over, child_of}
 use Rattle.tables.specs.Visit.{top}

@@ -1,8 +1,7 @@
 -- The number of a child names that child.
-use Rattle.std.proofs.Common.{◌≡◌, ℕ, zero, suc, ◌+◌, ◌-◌, ◌<◌, ◌≤◌, cond, ltb, ◌⊎◌, List, IfOk, Some, None, Ok, Err, Option, Result, sym, refl, ap, ◌∙◌, subst, inl, inr, arith}
+use Rattle.std.proofs.Common.{◌≡◌, ℕ, zero, suc, ◌+◌, ◌-◌, ◌<◌, ◌≤◌, ltb, IfOk, Some, None, Option, Result, sym, refl, ap, ◌∙◌, subst, inl, inr, arith}
 use Rattle.std.proofs.lemmas.Bool.{cond-true, cond-false, lt-ltb, le-ltb, cases_lt}
 use Rattle.tables.specs.declared.faults.Missing.{Missing}
-use Rattle.tables.specs.declared.faults.Missing.TheVariants as missing
 use Rattle.tables.specs.Format.{Layout, Layouts, size, sizes}
 use Rattle.tables.specs.Listing.{many}
 use Rattle.tables.specs.Question.{layout_at, layouts_at, before, nth, nth_child, child_of, ChildIs}

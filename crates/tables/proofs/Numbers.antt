@@ -1,5 +1,5 @@
 -- The record of each number tells of the layout of that number.
-use Rattle.std.proofs.Common.{◌≡◌, ℕ, zero, suc, ◌+◌, ◌-◌, ◌*◌, ◌/◌, ◌<◌, ◌≤◌, cond, ltb, leb, ◌⊎◌, List, [], ◌∷◌, ◌++◌, length, get_or, take, drop, Some, None, Ok, Err, Option, Result, sym, refl, ap, ◌∙◌, subst, inl, inr, append_assoc, append-nil, mul_comm, arith, length-append}
+use Rattle.std.proofs.Common.{◌≡◌, ℕ, zero, suc, ◌+◌, ◌-◌, ◌*◌, ◌/◌, ◌<◌, ◌≤◌, ltb, leb, List, [], ◌∷◌, ◌++◌, length, get_or, take, drop, Some, None, Ok, Err, Option, Result, sym, refl, ap, ◌∙◌, subst, inl, inr, append_assoc, append-nil, arith, length-append}
 use Rattle.std.proofs.lemmas.List.{length-take, length-drop, get_or-take, get_or-drop}
 use Rattle.std.proofs.lemmas.Bool.{cases_lt, cond-true, cond-false, lt-ltb, le-ltb, le-leb}
 use Rattle.tables.specs.declared.faults.Missing.{Missing}
@@ -8,7 +8,7 @@ use Rattle.tables.specs.declared.records.Part.{Part}
 use Rattle.tables.specs.declared.records.Table.{Table}
 use Rattle.tables.specs.declared.records.Record.{Record}
 use Rattle.tables.specs.declared.visit.Spot.{Spot}
-use Rattle.tables.specs.Answer.{part_of, part_in, table_at, metadata_in, metadata_at, segments_in, segments_at}
+use Rattle.tables.specs.Answer.{part_of, table_at, metadata_in, metadata_at, segments_in, segments_at}
 use Rattle.tables.specs.Read.{little}
 use Rattle.tables.specs.Format.{Layout, Layouts, numbers, size, sizes}
 use Rattle.tables.specs.Listing.{Tells, MetAt, Lists, ListAll, row_at, Holds}

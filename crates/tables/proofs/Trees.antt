@@ -1,8 +1,8 @@
 -- The visit finds a layout exactly where one stands within the limits, and there is no other.
-use Rattle.std.proofs.Common.{◌≡◌, ℕ, zero, suc, ◌+◌, ◌-◌, ◌*◌, ◌%◌, ◌<◌, ◌≤◌, max, ltb, leb, ◌⊎◌, List, [], ◌∷◌, ◌++◌, length, Ok, Err, Result, sym, refl, ap, ◌∙◌, subst, inl, inr, arith, length-append}
+use Rattle.std.proofs.Common.{◌≡◌, ℕ, zero, suc, ◌+◌, ◌-◌, ◌*◌, ◌<◌, ◌≤◌, ltb, List, [], ◌∷◌, ◌++◌, length, Ok, Result, sym, refl, ap, ◌∙◌, subst, inl, inr, arith, length-append}
 use Rattle.std.proofs.lemmas.Bool.{ltb-true, lt-ltb}
 use Rattle.tables.specs.declared.faults.Fault.{Fault}
-use Rattle.tables.specs.declared.faults.Fault.TheVariants.{TooDeep, TooManyTables, NoRecord}
+use Rattle.tables.specs.declared.faults.Fault.TheVariants.{TooManyTables, NoRecord}
 use Rattle.tables.specs.declared.reads.Vtable.{Vtable}
 use Rattle.tables.specs.declared.records.Part.{Part}
 use Rattle.tables.specs.declared.records.Table.{Table}
@@ -10,8 +10,8 @@ use Rattle.tables.specs.declared.visit.Spot.{Spot}
 use Rattle.tables.specs.Outcome.{◌>>=◌, ◌>>◌, need}
 use Rattle.tables.specs.Answer.{part_of}
 use Rattle.tables.specs.Read.{forward, vtable, entry, scalar, vector}
-use Rattle.tables.specs.Format.{Offset, VtableOf, Scalar, Vector, numbers, Layout, Layouts, Stands, StandAll, size, sizes, height, heights}
-use Rattle.tables.specs.Listing.{many, Tells, MetAt, Lists, ListAll}
+use Rattle.tables.specs.Format.{Vector, numbers, Layout, Layouts, Stands, StandAll, size, sizes, height, heights}
+use Rattle.tables.specs.Listing.{many, Lists, ListAll}
 use Rattle.tables.specs.Visit.{visit, children, below}
 use Rattle.tables.proofs.Binds.{bind_ok, need_ok}
 use Rattle.tables.proofs.Reading.{same_ok, never_ok, need_is, forward_ok, forward_is, vtable_ok, vtable_is, scalar_ok, scalar_is, vector_ok, vector_is}

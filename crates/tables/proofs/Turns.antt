@@ -1,6 +1,6 @@
 -- The turns of the loop over frames: what holds at each turn, and what each way through a turn comes to.
-use Rattle.std.proofs.Common.{◌≡◌, ℕ, zero, suc, ◌+◌, ◌-◌, ◌<◌, ◌≤◌, min, ltb, leb, ◌≢◌, List, [], ◌∷◌, ◌++◌, map, length, get_or, take, set, Some, None, Ok, Err, Option, Result, sym, refl, ap, ◌∙◌, subst, inl, inr, append-nil, add-one, arith, length-set}
-use Rattle.std.proofs.lemmas.List.{length_push, get_or-take, get_or-map, length-take, length-map, get_or-set_same, get_or-set_other, take_more_set, map_push, map-set, set-append_left, take-append-drop, length-take-le, take_at, take_more}
+use Rattle.std.proofs.Common.{◌≡◌, ℕ, zero, suc, ◌+◌, ◌-◌, ◌<◌, ◌≤◌, min, ltb, leb, List, [], ◌∷◌, ◌++◌, map, length, get_or, take, set, Some, None, Ok, Err, Option, Result, sym, refl, ap, ◌∙◌, subst, inl, inr, append-nil, arith, length-set}
+use Rattle.std.proofs.lemmas.List.{length_push, get_or-take, get_or-map, length-take, length-map, get_or-set_same, get_or-set_other, take_more_set, map_push, map-set, set-append_left, take-append-drop, length-take-le, take_at}
 use Rattle.std.proofs.lemmas.Bool.{cases_eq}
 use Rattle.tables.specs.declared.faults.Fault.{Fault}
 use Rattle.tables.specs.declared.records.Table.{Table}
@@ -8,7 +8,7 @@ use Rattle.tables.specs.declared.records.Record.{Record}
 use Rattle.tables.specs.declared.visit.Frame.{Frame}
 use Rattle.tables.specs.declared.visit.Met.{Met}
 use Rattle.tables.specs.declared.visit.Spot.{Spot}
-use Rattle.tables.specs.Outcome.{◌>>=◌, ◌>>◌, need}
+use Rattle.tables.specs.Outcome.{◌>>=◌}
 use Rattle.tables.specs.Read.{forward, vtable, entry, scalar, vector}
 use Rattle.tables.specs.Step.{opened, framed, closed, closing, stepped, Kept}
 use Rattle.tables.specs.Visit.{visit, below, top, children, visited, fresh, counted}

@@ -1,5 +1,5 @@
 -- What the questions on records answer.
-use Rattle.std.specs.Prelude.{ℕ, zero, suc, ◌+◌, ◌*◌, ◌/◌, ◌^◌, cond, List, length, take, drop, Some, None, Ok, Err, Option, Result, nat_le, nat_lt, slice_index_or}
+use Rattle.std.specs.Prelude.{ℕ, ◌+◌, ◌*◌, ◌/◌, cond, List, length, take, drop, Some, None, Ok, Err, Option, Result, nat_le, nat_lt, slice_index_or}
 use Rattle.tables.specs.declared.faults.Missing.{Missing}
 use Rattle.tables.specs.declared.faults.Missing.TheVariants as missing
 use Rattle.tables.specs.declared.records.Part.{Part}

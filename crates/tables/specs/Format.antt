@@ -1,7 +1,7 @@
 -- What it is for numbers, offsets, vtables, fields and layouts to stand in bytes, by the FlatBuffers format and the schema
 --   table Layout { encoding: u16; row_count: u64; metadata: [u8]; children: [Layout]; segments: [u32]; }
 -- Nothing here says in which order anything is read.
-use Rattle.std.specs.Prelude.{◌≡◌, ℕ, zero, suc, ◌+◌, ◌*◌, ◌%◌, ◌<◌, ◌≤◌, max, ◌⊎◌, List, [], ◌∷◌, length, take, drop}
+use Rattle.std.specs.Prelude.{◌≡◌, ℕ, zero, suc, ◌+◌, ◌*◌, ◌%◌, ◌<◌, ◌≤◌, max, ◌⊎◌, List, [], ◌∷◌, length}
 use Rattle.tables.specs.declared.reads.Vtable.{Vtable}
 use Rattle.tables.specs.declared.records.Part.{Part}
 use Rattle.tables.specs.Answer.{part_of}

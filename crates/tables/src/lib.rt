@@ -1,5 +1,7 @@
 // The reader of layout tables: it verifies that a tree of tables stands in bytes, by the FlatBuffers format, numbers the tables as
 // they are visited, and answers what each of them holds. It knows nothing of encodings, ids or dtypes.
+#![tactic(auto)]
+
 mod answers;
 mod faults;
 mod reads;
