@@ -5,7 +5,7 @@
 # Usage:  run.sh [FILE]
 # When FILE is given, the measured buffer is also written to that file.
 #
-# The static library is written to target/staticlib. The rest is built in a
+# The static library is written to crates/tables_c/out. The rest is built in a
 # temporary folder. When a needed tool is missing, the script says so and ends
 # with status 0. It was written for flatc and the FlatBuffers headers of
 # version 2.0.8.
@@ -35,12 +35,12 @@ build=$(mktemp -d)
 trap 'rm -rf "$build"' EXIT
 
 # What rt prints is shown only when it fails.
-if ! (cd "$root" && rt staticlib tables_c) >"$build/rt.log" 2>&1; then
+if ! (cd "$root/crates/tables_c" && rt lib) >"$build/rt.log" 2>&1; then
     cat "$build/rt.log" >&2
     echo "run.sh: The static library of tables_c cannot be built." >&2
     exit 1
 fi
-library="$root/target/staticlib/libtables_c.a"
+library="$root/crates/tables_c/out/libtables_c.a"
 
 flatc --cpp -o "$build" "$schema"
 

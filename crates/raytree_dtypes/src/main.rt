@@ -1,4 +1,6 @@
 // Lists the tables of files, each file as a tree, alone or with its dtype and its ids.
+#![tactic(auto)]
+
 mod drawing;
 mod dtypes;
 mod failures;
@@ -11,6 +13,7 @@ use crate::failures::Failure;
 use crate::listing::{list, list_line};
 use printing::{Names, Sources};
 use std::alloc::Global;
+use std::process::ExitCode;
 use std::{env, io};
 use tables::{Limits, Record};
 
@@ -72,11 +75,11 @@ fn run(rt: &HostRuntime) -> Result<(), Failure> {
     }
 }
 
-fn main(rt: HostRuntime) -> Result<(), Failure> {
-    let outcome = run(&rt);
-    match &outcome {
-        Ok(()) | Err(Failure::NotListed) => {}
+fn main(rt: HostRuntime) -> io::Result<ExitCode> {
+    match run(&rt) {
+        Ok(()) => return Ok(ExitCode::SUCCESS),
+        Err(Failure::NotListed) => {}
         Err(failure) => eprintln!(rt; "raytree: {failure}")?,
     }
-    outcome
+    Ok(ExitCode::FAILURE)
 }

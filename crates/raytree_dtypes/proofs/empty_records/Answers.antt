@@ -1,6 +1,6 @@
 use Rattle.std.proofs.Common.{◌≡◌, ℕ, replicate, None, ap, ◌∙◌, arith, rules}
 use Rattle.std.proofs.lemmas.List.{replicate_more}
-use Rattle.raytree.proofs.empty_records.Goals as goal
+use Rattle.raytree_dtypes.proofs.empty_records.Goals as goal
 
 pub loop-preserved : goal.loop-preserved
 loop-preserved c = search (rules, replicate_more)

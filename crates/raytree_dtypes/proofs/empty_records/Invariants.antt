@@ -1,5 +1,5 @@
 use Rattle.std.proofs.Common.{◌≡◌, replicate, None, vec_items}
-use Rattle.raytree.proofs.empty_records.Given as goal
+use Rattle.raytree_dtypes.proofs.empty_records.Given as goal
 
 -- So far the records are empty, one for each turn.
 abbrev pub invariant-loop : goal.invariant-loop
