@@ -1,12 +1,12 @@
 -- Reading line by line accepts the files of ids, and no other text.
-use Rattle.std.proofs.Common.{◌≡◌, ℕ, ◌+◌, ◌<◌, ◌≤◌, Bool, true, false, cond, eqb, ltb, leb, ◌⊎◌, List, [], ◌∷◌, ◌++◌, length, Ok, Err, Result, sym, refl, ap, ◌∙◌, subst, inl, inr, append_assoc, arith}
+use Rattle.std.proofs.Common.{◌≡◌, ℕ, ◌+◌, ◌≤◌, Bool, true, false, cond, eqb, ltb, leb, ◌⊎◌, List, [], ◌∷◌, ◌++◌, length, Ok, Err, Result, sym, refl, ap, ◌∙◌, subst, inl, inr, append_assoc, arith}
 use Rattle.std.proofs.lemmas.List.{append-nil, length_push, length-append}
 use Rattle.std.proofs.lemmas.Bool.{cases_Bool, eqb-true, eqb-false, ne_eqb, ltb-true, leb-true, lt-ltb, le-leb, and_parts, and_from}
 use Rattle.ids.specs.declared.faults.Fault.{Fault}
 use Rattle.ids.specs.declared.faults.Fault.TheVariants.{Length, Full}
 use Rattle.ids.specs.declared.faults.ReadFault.{ReadFault}
 use Rattle.ids.specs.Value.{Sized}
-use Rattle.ids.specs.Add.{fitting, added}
+use Rattle.ids.specs.Add.{fitting}
 use Rattle.ids.specs.Lines.{onto, lines_of, at_line, after, read_lines, ids_in}
 use Rattle.ids.specs.File.{OneLine, Writable, written, IsFile, Only, NoFile}
 

@@ -1,13 +1,13 @@
 -- Where reading line by line stops, the text has its first line that is wrong.
-use Rattle.std.proofs.Common.{◌≡◌, ℕ, ◌+◌, ◌<◌, ◌≤◌, Bool, true, false, eqb, ltb, leb, ◌⊎◌, List, [], ◌∷◌, ◌++◌, length, Ok, Err, Result, sym, refl, ap, ◌∙◌, subst, inl, inr, append_assoc, arith}
+use Rattle.std.proofs.Common.{◌≡◌, ℕ, ◌+◌, ◌<◌, ◌≤◌, Bool, true, false, eqb, ltb, leb, ◌⊎◌, List, [], ◌∷◌, ◌++◌, length, Err, sym, refl, ap, ◌∙◌, subst, inl, inr, append_assoc, arith}
 use Rattle.std.proofs.lemmas.List.{append-nil, length_push}
 use Rattle.std.proofs.lemmas.Bool.{both_ways, cases_Bool, eqb-true, ltb-true, ltb-false, leb-true, le-leb, and_parts, and_from}
 use Rattle.ids.specs.declared.faults.Fault.TheVariants.{Length, Full}
 use Rattle.ids.specs.declared.faults.ReadFault.{ReadFault}
 use Rattle.ids.specs.Value.{Sized}
-use Rattle.ids.specs.Add.{fitting, added}
+use Rattle.ids.specs.Add.{fitting}
 use Rattle.ids.specs.Lines.{first_line, after_line, lines_of, at_line, after, read_lines, ids_in}
-use Rattle.ids.specs.File.{OneLine, Writable, written, Meets, Wrong, WrongAt}
+use Rattle.ids.specs.File.{OneLine, written, Meets, Wrong, WrongAt}
 use Rattle.ids.proofs.Splits.{lines_split, nothing_after}
 use Rattle.ids.proofs.Files.{Fit, Ended, ended, writable, verdict}
 

@@ -4,11 +4,11 @@ use Rattle.ids.proofs.guard.Guard.add.Goals as goal
 
 pub returns : goal.returns
 returns c =
-    let e = c.in-ok-add.ensures in
+    let e = c.in_ok-add.ensures in
     record {
       answer = e.answer;
       ids = e.ids;
-      before = one_more_off _ _ _ _ _ e.ids (at_most c.add.new.self) c.saturating-add-self.ensures;
+      before = one_more_off _ _ _ _ _ e.ids (at_most c.add.new.self) c.saturating_add-self.ensures;
       state = e.state;
       named = refl;
     }

@@ -11,4 +11,4 @@ bounds-self-place c = omega (arith, count c.args.self.now)
 pub returns : goal.returns
 returns c =
     let h : c.args.place < c.args.self.now.count = omega (arith, count c.args.self.now) in
-    record { id = c.as-bytes.ensures.bytes ∙ sym (at c.args.self.now c.args.place _ h); size = c.as-bytes.ensures.size }
+    record { id = c.as_bytes.ensures.bytes ∙ sym (at c.args.self.now c.args.place _ h); size = c.as_bytes.ensures.size }

@@ -8,8 +8,8 @@ listed c = omega (arith, count c.args.self.now)
 pub bounds-self-place : goal.bounds-self-place
 bounds-self-place c = omega (arith, count c.args.self.now)
 
-pub invariant-of-self : goal.invariant-of-self
-invariant-of-self c = (length-set _ _ _ ∙ c.args.self.now.whole, (omega (arith, count c.args.self.now), tt))
+pub invariant_of-self : goal.invariant_of-self
+invariant_of-self c = record { whole = length-set _ _ _ ∙ c.args.self.now.whole; within = omega (arith, count c.args.self.now) }
 
 pub returns : goal.returns
 returns c =
