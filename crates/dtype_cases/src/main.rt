@@ -1,6 +1,8 @@
 // Replays the cases of standard input, and prints what the libraries answer to each. A line holds a case: its name, what is
 // asked, the bytes that it is asked of, and further words. Lines that begin with `#` explain the next cases. `make_cases.py`
 // writes these lines and what is then to be printed, and says more on the form of both.
+#![tactic(auto)]
+
 mod equality;
 mod lists;
 mod notation;

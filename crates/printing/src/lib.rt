@@ -1,5 +1,7 @@
 // What the program computes before it prints: how wide columns are, the labels of encodings, the branches of a tree, the dtypes whose
 // children are still to be printed, and which files a line names.
+#![tactic(auto)]
+
 mod branches;
 mod columns;
 mod escapes;

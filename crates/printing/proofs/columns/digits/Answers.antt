@@ -6,7 +6,7 @@ pub returns : goal.returns
 returns c =
     let k = c.ilog10.result in
     let high = c.ilog10.ensures.power_le in
-    let low = c.ilog10.ensures.next-power-gt in
+    let low = c.ilog10.ensures.next_power_gt in
     let more : 10 ^ (k + 1) ≡ 10 * 10 ^ k = ap (λ (n : ℕ). 10 ^ n) (add-one k) ∙ pow-succ' 10 k in
     let less : k + 1 - 1 ≡ k = omega arith in
     record {

@@ -3,7 +3,7 @@ use Rattle.std.proofs.lemmas.List.{take_all}
 use Rattle.printing.specs.Greatest.{greatest}
 use Rattle.printing.proofs.Folding.{more, same}
 use Rattle.printing.proofs.columns.greatest_of.Goals as goal
-use Rattle.printing.proofs.columns.greatest_of.Goals.{in-Some, in-default}
+use Rattle.printing.proofs.columns.greatest_of.Goals.{in-Some, in_default}
 
 pub loop-slot-preserved : goal.loop-slot-preserved
 loop-slot-preserved c =
@@ -18,11 +18,11 @@ loop-slot-preserved c =
         ap (λ g. g.encoding) w.greatest-is ∙ w.max-in-Some-2.ensures ∙ more (λ t. t.encoding) records i _ _ lt w.in-Some.is inv.2,
         ap (λ g. g.rows) w.greatest-is ∙ w.max-in-Some-3.ensures ∙ more (λ t. t.rows) records i _ _ lt w.in-Some.is inv.3,
       )
-      | in-default w ↦ (
-        ap (λ g. g.depth) w.greatest-is ∙ same (λ t. t.depth) records i _ lt w.in-default.is inv.0,
-        ap (λ g. g.place) w.greatest-is ∙ same (λ t. t.place) records i _ lt w.in-default.is inv.1,
-        ap (λ g. g.encoding) w.greatest-is ∙ same (λ t. t.encoding) records i _ lt w.in-default.is inv.2,
-        ap (λ g. g.rows) w.greatest-is ∙ same (λ t. t.rows) records i _ lt w.in-default.is inv.3,
+      | in_default w ↦ (
+        ap (λ g. g.depth) w.greatest-is ∙ same (λ t. t.depth) records i _ lt w.in_default.is inv.0,
+        ap (λ g. g.place) w.greatest-is ∙ same (λ t. t.place) records i _ lt w.in_default.is inv.1,
+        ap (λ g. g.encoding) w.greatest-is ∙ same (λ t. t.encoding) records i _ lt w.in_default.is inv.2,
+        ap (λ g. g.rows) w.greatest-is ∙ same (λ t. t.rows) records i _ lt w.in_default.is inv.3,
       )
     ]
 

@@ -25,17 +25,17 @@ has_tab line front rest e lacks =
 apart : (b : Bool) → b ≡ true → b ≡ false → ⊥
 apart b t f = let z : ◌≡◌ {A = ℕ} 0 1 = cc in omega arith
 
-pub returns-in-default : goal.returns-in-default
-returns-in-default c = (refl, λ k lt is. NoCharPasses-char 9 c.args.line.now k c.in-default.ensures.cases (lit< tt) lt is)
+pub returns-in_default : goal.returns-in_default
+returns-in_default c = (refl, λ k lt is. NoCharPasses-char 9 c.args.line.now k c.in_default.ensures.cases (lit< tt) lt is)
 
-pub returns-in-err-dtype : goal.returns-in-err-dtype
-returns-in-err-dtype c =
+pub returns-in_err-dtype : goal.returns-in_err-dtype
+returns-in_err-dtype c =
     let line = c.args.line.now in
     let rest = c.in-Some.rest.now in
     let p = parts line (c.in-Some.tables, c.in-Some.rest) c.in-Some.ensures.cases in
-    let lacks : LacksByte 9 rest = λ k lt is. NoCharPasses-char 9 rest k c.in-err-dtype.ensures.cases (lit< tt) lt is in
+    let lacks : LacksByte 9 rest = λ k lt is. NoCharPasses-char 9 rest k c.in_err-dtype.ensures.cases (lit< tt) lt is in
     let P : Option Sources → Type 0 = λ r. MatchOption r (Unnamed line) (Named line) in
-    subst P (sym c.from-residual.ensures) (record {
+    subst P (sym c.from_residual.ensures) (record {
       not_one = has_tab line _ _ p.0;
       not_three = λ t d i n. has_tab rest d i (only line (c.in-Some.tables, c.in-Some.rest) t _ c.in-Some.ensures.cases n.whole n.first).1 lacks;
     })
@@ -44,14 +44,14 @@ pub returns-then-contains : goal.returns-then-contains
 returns-then-contains c =
     let line = c.args.line.now in
     let rest = c.in-Some.rest.now in
-    let ids = c.in-ok-dtype.ids.now in
+    let ids = c.in_ok-dtype.ids.now in
     let p = parts line (c.in-Some.tables, c.in-Some.rest) c.in-Some.ensures.cases in
     let tab = (contains_char 9 ids c.contains.result c.contains.ensures.cases (lit< tt)).0 c.if-contains.true in
     record {
       not_one = has_tab line _ _ p.0;
       not_three = λ t d i n.
           let s = only line (c.in-Some.tables, c.in-Some.rest) t _ c.in-Some.ensures.cases n.whole n.first in
-          let e : ids ≡ i = (only rest (c.in-ok-dtype.dtype, c.in-ok-dtype.ids) d i c.in-ok-dtype.ensures.cases s.1 n.second).1 in
+          let e : ids ≡ i = (only rest (c.in_ok-dtype.dtype, c.in_ok-dtype.ids) d i c.in_ok-dtype.ensures.cases s.1 n.second).1 in
           let l : length ids ≡ length i = ap length e in
           let lt : tab.0 < length i = omega (arith, tab.1) in
           n.third tab.0 lt (ap (λ (xs : List ℕ). get_or xs tab.0 0) (sym e) ∙ tab.2);
@@ -60,8 +60,8 @@ returns-then-contains c =
 pub returns : goal.returns
 returns c =
     let p = parts c.args.line.now (c.in-Some.tables, c.in-Some.rest) c.in-Some.ensures.cases in
-    let q = parts c.in-Some.rest.now (c.in-ok-dtype.dtype, c.in-ok-dtype.ids) c.in-ok-dtype.ensures.cases in
-    let tab = (contains_char 9 c.in-ok-dtype.ids.now c.contains.result c.contains.ensures.cases (lit< tt)).1 in
+    let q = parts c.in-Some.rest.now (c.in_ok-dtype.dtype, c.in_ok-dtype.ids) c.in_ok-dtype.ensures.cases in
+    let tab = (contains_char 9 c.in_ok-dtype.ids.now c.contains.result c.contains.ensures.cases (lit< tt)).1 in
     record {
       whole = p.0 ∙ ap (λ (xs : List ℕ). c.in-Some.tables.now ++ (9 ∷ xs)) q.0;
       first = p.1;

@@ -4,7 +4,7 @@ use Rattle.printing.specs.Greatest.{greatest}
 use Rattle.printing.specs.Label.{label_at}
 use Rattle.printing.proofs.Folding.{more, same}
 use Rattle.printing.proofs.labels.Labels.widest.Goals as goal
-use Rattle.printing.proofs.labels.Labels.widest.Goals.{in-Some, in-default}
+use Rattle.printing.proofs.labels.Labels.widest.Goals.{in-Some, in_default}
 
 pub loop-slot-preserved : goal.loop-slot-preserved
 loop-slot-preserved c =
@@ -14,7 +14,7 @@ loop-slot-preserved c =
     let inv = c.loop-slot.invariant in
     elim c.match-slot.branch [
       | in-Some w ↦ w.width-is ∙ w.max-width.ensures ∙ ap (λ l. max c.loop-slot.width l.width) w.get.ensures ∙ more (λ t. (label_at c.args.self.now t.encoding).width) records i _ _ lt w.in-Some.is inv
-      | in-default w ↦ w.width-is ∙ same (λ t. (label_at c.args.self.now t.encoding).width) records i _ lt w.in-default.is inv
+      | in_default w ↦ w.width-is ∙ same (λ t. (label_at c.args.self.now t.encoding).width) records i _ lt w.in_default.is inv
     ]
 
 pub returns : goal.returns
