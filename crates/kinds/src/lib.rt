@@ -1,4 +1,6 @@
 // What a dtype is at its top: its kind, and whether its values may be null. The words are those of a dtype text.
+#![tactic(auto)]
+
 ghost use Rattle.std.specs.Prelude.{◌≡◌, MatchOption, ◌≢◌};
 ghost use Rattle.std.specs.Str.{bytes_eq};
 ghost use Rattle.kinds.specs.Word.{ptype_number, ptype_word, kind_word, mark_word, kind_named, mark_named, named};
