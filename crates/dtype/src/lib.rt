@@ -1,5 +1,7 @@
 // Dtype texts: the text that names a dtype is read into lines, and a dtype in use is one of its lines with all below it, or a bool or
 // a number type that stands in no text. It knows nothing of tables and encodings.
+#![tactic(auto)]
+
 mod children;
 mod dtypes;
 mod equality;

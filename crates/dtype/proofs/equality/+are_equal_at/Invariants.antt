@@ -5,8 +5,8 @@ use Rattle.dtype.proofs.Equal.{Left}
 use Rattle.dtype.proofs.equality.+are_equal_at.Given as goal
 
 -- The depth that remains.
-abbrev pub decreases-are-equal-at : goal.decreases-are-equal-at
-decreases-are-equal-at l = 255 - (get_or l.a.lines.now l.i blank).depth
+abbrev pub decreases-are_equal_at : goal.decreases-are_equal_at
+decreases-are_equal_at l = 255 - (get_or l.a.lines.now l.i blank).depth
 
 -- The children that are left decide.
 abbrev pub invariant-loop-x : goal.invariant-loop-x

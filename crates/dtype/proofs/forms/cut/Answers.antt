@@ -3,4 +3,4 @@ use Rattle.dtype.proofs.Heads.{cut_at}
 use Rattle.dtype.proofs.forms.cut.Goals as goal
 
 pub returns : goal.returns
-returns c = cut_at c.args.bytes.now c.in-ok-end.end (sym c.in-ok-end.ensures.value) c.in-ok-end.ensures.bound
+returns c = cut_at c.args.bytes.now c.in_ok-end.end (sym c.in_ok-end.ensures.value) c.in_ok-end.ensures.bound

@@ -7,4 +7,4 @@ use Rattle.dtype.proofs.order.check.Given as goal
 
 -- The lines that are left decide.
 abbrev pub invariant-loop-i : goal.invariant-loop-i
-invariant-loop-i l = (l.i ≤ length l.lines) × (first_bad 1 [] (map Some (rows_of l.text l.lines) ++ ending l.is-whole) ≡ bad l.text l.lines l.is-whole l.i)
+invariant-loop-i l = (l.i ≤ length l.lines) × (first_bad 1 [] (map Some (rows_of l.text l.lines) ++ ending l.is_whole) ≡ bad l.text l.lines l.is_whole l.i)

@@ -4,4 +4,4 @@ use Rattle.dtype.specs.Row.{row_of}
 use Rattle.dtype.proofs.lines.DTypeText.line_count.Goals as goal
 
 pub returns : goal.returns
-returns c = ap length c.as-slice.ensures.value ∙ sym (length-map (vec_items c.args.self.now.lines) (row_of c.args.self.now.text.now))
+returns c = ap length c.as_slice.ensures.value ∙ sym (length-map (vec_items c.args.self.now.lines) (row_of c.args.self.now.text.now))
