@@ -1,4 +1,4 @@
-use Rattle.std.proofs.Common.{◌-◌, reverse, sym, ap, ◌∙◌, arith}
+use Rattle.std.proofs.Common.{reverse, sym, ap, ◌∙◌, arith}
 use Rattle.std.proofs.lemmas.List.{take_all}
 use Rattle.std.proofs.lemmas.Bool.{cond-true, cond-false, lt-ltb, le-ltb}
 use Rattle.dtype.specs.Row.{rows_of}
