@@ -3,7 +3,7 @@ use Rattle.std.specs.Str.Iter.{LacksByte}
 use Rattle.std.proofs.lemmas.List.{get_or_at}
 use Rattle.std.proofs.lemmas.Str.Pattern.{IsSplitOnceResult, NoCharPasses-char, contains_char, split_parts, split_after}
 use Rattle.printing.specs.declared.naming.Sources.{Sources}
-use Rattle.printing.specs.Naming.{Named, Unnamed, Parted}
+use Rattle.printing.specs.Naming.{Named, Unnamed}
 use Rattle.printing.proofs.naming.sources_in.Goals as goal
 
 -- The two parts of a line that is cut at its first tab.

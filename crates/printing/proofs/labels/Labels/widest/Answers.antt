@@ -1,4 +1,4 @@
-use Rattle.std.proofs.Common.{◌≡◌, ◌≤◌, max, length, ap, ◌∙◌, arith}
+use Rattle.std.proofs.Common.{◌≤◌, max, length, ap, ◌∙◌, arith}
 use Rattle.std.proofs.lemmas.List.{take_all}
 use Rattle.printing.specs.Greatest.{greatest}
 use Rattle.printing.specs.Label.{label_at}
