@@ -1,6 +1,6 @@
 -- Dtypes as trees, the text that a tree is printed as, and which trees are dtypes.
 use Rattle.std.specs.Prelude.{◌≡◌, ℕ, suc, ◌+◌, ◌≤◌, max, List, [], ◌∷◌, ◌++◌, length, decimal, ◌≢◌}
-use Rattle.std.specs.List.{AllByRecursion as All}
+use Rattle.std.specs.List.{AllByRecursion}
 use Rattle.kinds.specs.declared.Kind.{Kind}
 use Rattle.kinds.specs.declared.Kind.TheVariants as kind
 use Rattle.kinds.specs.declared.Nullability.{Nullability}
@@ -74,7 +74,7 @@ printed t = printed_rows (rows 0 [] t)
 
 -- A field's name: 1 to 64 bytes, none of them a tab or 0A.
 abbrev pub FieldName : List ℕ → Type 0
-FieldName name = (1 ≤ length name) × (length name ≤ 64) × All (λ b. (b ≢ 9) × (b ≢ 10)) name
+FieldName name = (1 ≤ length name) × (length name ≤ 64) × AllByRecursion (λ b. (b ≢ 9) × (b ≢ 10)) name
 
 abbrev pub Fields : Children → Type 0
 Fields Children.none = Unit
