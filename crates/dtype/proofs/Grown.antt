@@ -199,9 +199,9 @@ chain_past : (r : Row) (es : List Row) (b : Bool) (xs : List Root) → Low r.dep
 chain_past r es b [] l c = tt
 chain_past r es b (x ∷ xs) l c =
     let d = x.depth in
-    let not-direct : (b && ltb r.depth d) ≡ false = and_right b (ltb r.depth d) (le-ltb r.depth d l) in
+    let not_direct : (b && ltb r.depth d) ≡ false = and_right b (ltb r.depth d) (le-ltb r.depth d l) in
     let here : below d false (length x.name) (above d es) ≡ true =
-    ap (below d false (length x.name)) (sym (above_past d r es l)) ∙ ap (λ (q : Bool). below d q (length x.name) (above d (r ∷ es))) (sym not-direct) ∙ c.0.3 in
+    ap (below d false (length x.name)) (sym (above_past d r es l)) ∙ ap (λ (q : Bool). below d q (length x.name) (above d (r ∷ es))) (sym not_direct) ∙ c.0.3 in
     ((c.0.0, c.0.1, c.0.2, here), c.1, chain_past r es false xs (low_trans d r.depth xs l c.1) c.2)
 
 -- under no line stands no root

@@ -16,7 +16,7 @@ use Rattle.kinds.proofs.Words.{kind_word_lem, word_kind, mark_word_lem, word_mar
 use Rattle.dtype.proofs.Words.{Clean, clean_tab, clean_end, clean_both, clean_kind, clean_mark, clean_decimal, depth_decimal, decimal_depth}
 use Rattle.dtype.proofs.Breaks.{OneLine, each_one_line, joined_lines, lines_append, form_ended}
 
--- A field up to a tab, read by `read`, and what is made of the rest: `fields_of` is three of these and `nameThen`.
+-- A field up to a tab, read by `read`, and what is made of the rest: `fields_of` is three of these and `name_then`.
 abbrev cut : {A B : Type 0} → (List ℕ → Option A) → (A → List ℕ → Option B) → List ℕ → Option B
 cut read then s = do
   n ← place 9 s

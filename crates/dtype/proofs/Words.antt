@@ -53,7 +53,7 @@ pub clean_mark : (m : Nullability) → Clean (mark_word m)
 clean_mark nullability.NonNullable = omega arith
 clean_mark nullability.Nullable = omega arith
 
--- `allDigits` and `valueFrom` are the digits and the number that `decimal` is about
+-- `all_ascii_digits` and `value_from` are the digits and the number that `decimal` is about
 pub numerals : IsNumeralModel (λ ds. all_ascii_digits ds ≡ true) (value_from 0)
 numerals = numerals_by_fold (λ ds. all_ascii_digits ds ≡ true) tells_all_ascii_digits value_from (search rules)
 
