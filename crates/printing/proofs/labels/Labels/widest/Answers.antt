@@ -1,4 +1,4 @@
-use Rattle.std.proofs.Common.{◌≤◌, max, length, ap, ◌∙◌, arith}
+use Rattle.std.proofs.Common.{◌≤◌, length, ap, ◌∙◌, arith}
 use Rattle.std.proofs.lemmas.List.{take_all}
 use Rattle.printing.specs.Greatest.{greatest}
 use Rattle.printing.specs.Label.{label_at}
@@ -13,7 +13,7 @@ loop-slot-preserved c =
     let lt = c.loop-slot-test.true in
     let inv = c.loop-slot.invariant in
     elim c.match-slot.branch [
-      | in-Some w ↦ w.width-is ∙ w.max-width.ensures ∙ ap (λ l. max c.loop-slot.width l.width) w.get.ensures ∙ more (λ t. (label_at c.args.self.now t.encoding).width) records i _ _ lt w.in-Some.is inv
+      | in-Some w ↦ let e = more (λ t. (label_at c.args.self.now t.encoding).width) records i _ _ lt w.in-Some.is inv in cc
       | in_default w ↦ w.width-is ∙ same (λ t. (label_at c.args.self.now t.encoding).width) records i _ lt w.in_default.is inv
     ]
 
