@@ -3,13 +3,13 @@
 
 Usage: python3 tools/respell.py        at the top of the repository, once, right after the toolchain's port.py
 
-A name is respelled where specs/ or proofs/ of a crate define it: valueFrom and value-from become value_from. Types and facts
-keep their capitals, and so do names that the toolchain makes (those of goals and of what is known at a goal). Of a source file
-only the clauses and the imports of ghost names are touched; names of functions, strings, inputs and outputs stay. Documents are
-respelled where they have a name alone between backticks.
+A name is respelled where specs/ or proofs/ of a crate define it: valueFrom and value-from become value_from. A type keeps its
+capitals and loses a hyphen: Part-of becomes PartOf. Names that the toolchain makes (those of goals and of what is known at a goal)
+stay. Of a source file only the clauses and the imports of ghost names are touched; names of functions, strings, inputs and
+outputs stay. Documents are respelled where they have a name alone between backticks.
 
-A lemma that would get the name of a function gets _lem after it. The script stops before it writes anything if two other names
-would fall together.
+A name with a hyphen whose new form is a word of specs/ or proofs/ already gets _lem after it. The script stops before it writes
+anything if two other names would fall together, or if the new form of one is there already.
 """
 
 import collections

@@ -1,12 +1,11 @@
 -- Labels of encodings.
-use Rattle.std.specs.Prelude.{◌≡◌, ℕ, List, length, vec_items, slice_index_or}
-use Rattle.std.proofs.Math.Utf8.{encodes}
+use Rattle.std.specs.Prelude.{◌≡◌, ℕ, List, length, encode_utf8_all, vec_items, slice_index_or}
 use Rattle.printing.specs.declared.labels.Label.{Label}
 use Rattle.printing.specs.declared.labels.Labels.{Labels}
 
 -- A text of n characters.
 abbrev pub Spelled : List ℕ → ℕ → Type 0
-Spelled text n = (chars : List ℕ) × (encodes chars ≡ text) × (length chars ≡ n)
+Spelled text n = (chars : List ℕ) × (encode_utf8_all chars ≡ text) × (length chars ≡ n)
 
 -- The label of an encoding.
 abbrev pub label_at : Labels → ℕ → Label

@@ -30,7 +30,7 @@ impl fmt::Display for Failure {
     fn fmt<W: fmt::Write>(&self, f: &mut fmt::Formatter<W>) -> fmt::Result {
         match self {
             Failure::Usage => f.write_str(
-                "there are two arguments, or more than three; usage: raytree TABLES, or raytree TABLES DTYPE IDS, or raytree alone, with a line on standard input for each: one name, or three with tabs between them",
+                "there are two arguments, or more than three; usage: raytree_dtypes TABLES, or raytree_dtypes TABLES DTYPE IDS, or raytree_dtypes alone, with a line on standard input for each: one name, or three with tabs between them",
             ),
             Failure::NotListed => f.write_str("a file was refused or could not be read"),
             Failure::Stopped(error) => write!(f, "stopped: {error}"),

@@ -79,7 +79,7 @@ fn main(rt: HostRuntime) -> io::Result<ExitCode> {
     match run(&rt) {
         Ok(()) => return Ok(ExitCode::SUCCESS),
         Err(Failure::NotListed) => {}
-        Err(failure) => eprintln!(rt; "raytree: {failure}")?,
+        Err(failure) => eprintln!(rt; "raytree_dtypes: {failure}")?,
     }
     Ok(ExitCode::FAILURE)
 }
