@@ -13,13 +13,7 @@ use Rattle.dtype.specs.Tree.{Tree, Children, rows, rows_below, height, heights, 
 use Rattle.dtype.specs.Order.{above, takes, below, fits, is_list, deeper_next, filled, first_bad}
 use Rattle.dtype.specs.Use.{Root, deeper, beyond, roots}
 use Rattle.dtype.proofs.Roots.{Low}
-
-zero_one : ◌≡◌ {A = ℕ} 0 1 → ⊥
-zero_one e = omega arith
-
--- a name without tab and 0A
-abbrev pub Clean : List ℕ → Type 0
-Clean name = All (λ b. (b ≡ 9 → ⊥) × (b ≡ 10 → ⊥)) name
+use Rattle.dtype.proofs.Words.{Clean}
 
 -- each line is good after the earlier ones, nearest first
 abbrev pub Good : List Row → List Row → Type 0
@@ -35,7 +29,7 @@ good_none (r ∷ rs) es n g =
 
 passed_on : (b : Bool) (x : Option Fault) (f : Fault) → cond b x (Some f) ≡ None → (b ≡ true) × (x ≡ None)
 passed_on true x f e = (refl, e)
-passed_on false x f e = let z : ◌≡◌ {A = ℕ} 0 1 = cc in absurd (zero_one z)
+passed_on false x f e = absurd (cc)
 
 pub none_good : (rs es : List Row) (n : ℕ) → first_bad n es (map Some rs) ≡ None → Good es rs
 none_good [] es n e = tt
@@ -110,7 +104,7 @@ takes_more (kind.Primitive p) a b n i t = absurd (false≢true t)
 -- a child of p fits where p is the line above
 fits_child : (es : List Row) (r p : Row) (direct : Bool) → r.depth ≤ 15 → above r.depth es ≡ Some p → r.depth ≡ suc p.depth
     → (direct ≡ true → nearer r.depth es ≡ true) → takes p.kind direct (length r.name) ≡ true → fits es r ≡ true
-fits_child [] r p direct le a s i t = let z : ◌≡◌ {A = ℕ} 0 1 = cc in absurd (zero_one z)
+fits_child [] r p direct le a s i t = absurd (cc)
 fits_child (e ∷ es) r p direct le a s i t =
     and_from (leb r.depth 15) (below r.depth (ltb e.depth r.depth) (length r.name) (above r.depth (e ∷ es))) (le-leb r.depth 15 le) (
     ap (below r.depth (ltb e.depth r.depth) (length r.name)) a
@@ -279,7 +273,7 @@ taken_allowed kind.Binary cs t c some = takes_none kind.Binary cs (λ direct n. 
 taken_allowed (kind.Primitive p) cs t c some = takes_none (kind.Primitive p) cs (λ direct n. refl) t
 
 some_child : (name : List ℕ) (t : Tree) (cs : Children) → Children.child name t cs ≡ Children.none → ⊥
-some_child name t cs e = let z : ◌≡◌ {A = ℕ} 0 1 = cc in zero_one z
+some_child name t cs e = cc
 
 -- before a deeper line there is a deeper root
 deeper_some : (d : ℕ) (rs : List Row) → deeper_next d (map Some rs) ≡ true → deeper d (roots rs) ≡ Children.none → ⊥

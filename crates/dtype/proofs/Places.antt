@@ -1,14 +1,14 @@
 -- The first place of a byte.
-use Rattle.std.proofs.Common.{◌≡◌, ℕ, suc, ◌+◌, ◌<◌, eqb, ◌⊎◌, List, [], ◌∷◌, ◌++◌, length, take, drop, Some, None, Option, sym, refl, ap, ◌∙◌, subst, inl, inr, arith}
-use Rattle.std.proofs.lemmas.Bool.{eq-eqb, ne_eqb, cond-true, cond-false, cases_eq}
-use Rattle.std.specs.List.{AllByRecursion as All}
+use Rattle.std.proofs.Common.{◌≡◌, ℕ, suc, ◌+◌, ◌<◌, ◌≤◌, cond, not, eqb, ltb, ◌⊎◌, List, [], ◌∷◌, ◌++◌, length, take, drop, Some, None, Option, sym, refl, ap, ◌∙◌, subst, inl, inr, arith}
+use Rattle.std.proofs.lemmas.Bool.{eq-eqb, ne_eqb, cond-true, cond-false, cases_eq, cases_lt, lt-ltb, le-ltb}
+use Rattle.std.specs.List.{prefix_len, AllByRecursion as All}
 use Rattle.kinds.proofs.Words.{same_some, never_some}
 use Rattle.dtype.specs.Form.{◌>>=◌, place}
 
 -- what went before an answer that is there
 pub bind_some : {A B : Type 0} (m : Option A) (f : A → Option B) (y : B) → ◌>>=◌ m f ≡ Some y → (x : A) × (m ≡ Some x) × (f x ≡ Some y)
 bind_some (Some x) f y e = (x, refl, e)
-bind_some None f y e = absurd (never_some e)
+bind_some None f y e = absurd (cc)
 
 -- the byte b does not stand in s
 abbrev pub Free : ℕ → List ℕ → Type 0
@@ -16,15 +16,22 @@ Free b s = All (λ x. x ≡ b → ⊥) s
 
 -- a byte that is the first, and one that comes later
 pub place_here : (b x : ℕ) (xs : List ℕ) → x ≡ b → place b (x ∷ xs) ≡ Some 0
-place_here b x xs e = cond-true (eqb x b) _ _ (eq-eqb x b e)
+place_here b x xs e = rw (eq-eqb x b e) (cond-true (ltb 0 (suc (length xs))) _ _ (lt-ltb 0 (suc (length xs)) (omega arith)))
 
 pub place_later : (b x : ℕ) (xs : List ℕ) → (x ≡ b → ⊥) → place b (x ∷ xs) ≡ ◌>>=◌ (place b xs) (λ n. Some (suc n))
-place_later b x xs ne = cond-false (eqb x b) _ _ (ne_eqb x b ne)
+place_later b x xs ne = rw (ne_eqb x b ne) (later (prefix_len (λ y. not (eqb y b)) xs) (length xs))
+  where
+    later : (p n : ℕ) → cond (ltb (1 + p) (suc n)) (Some (1 + p)) None ≡ ◌>>=◌ (cond (ltb p n) (Some p) None) (λ k. Some (suc k))
+    later p n = on (cases_lt p n)
+      where
+        on : (p < n) ⊎ (n ≤ p) → cond (ltb (1 + p) (suc n)) (Some (1 + p)) None ≡ ◌>>=◌ (cond (ltb p n) (Some p) None) (λ k. Some (suc k))
+        on (inl h) = rw (lt-ltb p n h) (cond-true (ltb (1 + p) (suc n)) _ _ (lt-ltb (1 + p) (suc n) (omega arith)) ∙ ap Some (omega arith))
+        on (inr h) = rw (le-ltb p n h) (cond-false (ltb (1 + p) (suc n)) _ _ (le-ltb (1 + p) (suc n) (omega arith)))
 
 -- a byte stands first behind what is free of it
 pub place_append : (b : ℕ) (s rest : List ℕ) → Free b s → place b (s ++ (b ∷ rest)) ≡ Some (length s)
 place_append b [] rest f = place_here b b rest refl
-place_append b (x ∷ s) rest f = place_later b x _ f.0 ∙ ap (λ (o : Option ℕ). ◌>>=◌ o (λ n. Some (suc n))) (place_append b s rest f.1)
+place_append b (x ∷ s) rest f = place_later b x (s ++ (b ∷ rest)) f.0 ∙ ap (λ (o : Option ℕ). ◌>>=◌ o (λ n. Some (suc n))) (place_append b s rest f.1)
 
 -- a byte that stands nowhere has no place
 pub free_none : (b : ℕ) (s : List ℕ) → Free b s → place b s ≡ None
@@ -41,7 +48,7 @@ none_free b (x ∷ s) e =
   where
     later : (o : Option ℕ) → ◌>>=◌ o (λ n. Some (suc n)) ≡ None → o ≡ None
     later None h = refl
-    later (Some n) h = absurd (never_some (sym h))
+    later (Some n) h = absurd (cc)
 
 -- the first byte is the one looked for, or its place is one further than in the rest
 pub place_cases : (b x : ℕ) (xs : List ℕ) (n : ℕ) → place b (x ∷ xs) ≡ Some n → ((x ≡ b) × (n ≡ 0)) ⊎ ((x ≡ b → ⊥) × ((m : ℕ) × (place b xs ≡ Some m) × (n ≡ suc m)))
@@ -56,7 +63,7 @@ abbrev CutAt : ℕ → List ℕ → ℕ → Type 0
 CutAt b s n = (n < length s) × (s ≡ take n s ++ (b ∷ drop (suc n) s)) × Free b (take n s)
 
 cut_at : (b : ℕ) (s : List ℕ) (n : ℕ) → place b s ≡ Some n → CutAt b s n
-cut_at b [] n e = absurd (never_some e)
+cut_at b [] n e = absurd (cc)
 cut_at b (x ∷ s) n e =
     elim (place_cases b x s n e) [
       | inl h ↦ subst (CutAt b (x ∷ s)) (sym h.1) (omega arith, ap (λ z. z ∷ s) h.0, tt)

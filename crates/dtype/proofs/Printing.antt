@@ -10,7 +10,7 @@ use Rattle.kinds.specs.Word.{kind_named, mark_named}
 use Rattle.dtype.specs.Form.{◌>>=◌, place, lines_of, depth_of, without_tab, last_field, fields_of, form_of, forms_of}
 use Rattle.dtype.specs.Tree.{printed_row, printed_rows}
 use Rattle.kinds.specs.Word.{kind_word, mark_word}
-use Rattle.kinds.proofs.Words.{same_some, never_some}
+use Rattle.kinds.proofs.Words.{same_some}
 use Rattle.dtype.proofs.Places.{Free, bind_some, place_append, free_none, none_free, place_some}
 use Rattle.kinds.proofs.Words.{kind_word_lem, word_kind, mark_word_lem, word_mark}
 use Rattle.dtype.proofs.Words.{Clean, clean_tab, clean_end, clean_both, clean_kind, clean_mark, clean_decimal, depth_decimal, decimal_depth}
@@ -53,7 +53,7 @@ field_last s name e = split (place 9 s) refl e
   where
     split : (o : Option ℕ) → place 9 s ≡ o → without_tab s o ≡ Some name → (s ≡ name) × Free 9 s
     split None p h = (same_some h, none_free 9 s p)
-    split (Some n) p h = absurd (never_some h)
+    split (Some n) p h = absurd (cc)
 
 -- A line without its 0A.
 abbrev pub printed_fields : Row → List ℕ
@@ -175,33 +175,23 @@ forms_printed rs h = ap (map form_of) (lines_printed rs h) ∙ each rs h
     each [] h = refl
     each (r ∷ rs) h = ap (λ z. z ∷ map form_of (map printed_row rs)) (form_printed r h.0.0 h.0.1) ∙ ap (λ z. Some r ∷ z) (each rs h.1)
 
--- two lists with a head are the same in head and rest, and none is the empty list
-same_head : {A : Type 0} {x y : A} {xs ys : List A} → x ∷ xs ≡ y ∷ ys → x ≡ y
-same_head e = cc
-
-same_rest : {A : Type 0} {x y : A} {xs ys : List A} → x ∷ xs ≡ y ∷ ys → xs ≡ ys
-same_rest e = cc
-
-never_nil : {A : Type 0} {x : A} {xs : List A} → x ∷ xs ≡ [] → ⊥
-never_nil e = let z : ◌≡◌ {A = ℕ} 0 1 = cc in omega arith
-
 -- rows that are read have clean names, and were printed so if none is too deep
 pub clean_forms : (text : List ℕ) (rs : List Row) → forms_of text ≡ map Some rs → All (λ r. Clean r.name) rs
 clean_forms text rs e = each (lines_of text) rs e
   where
     each : (ls : List (List ℕ)) (rs : List Row) → map form_of ls ≡ map Some rs → All (λ r. Clean r.name) rs
     each [] [] e = tt
-    each [] (r ∷ rs) e = absurd (never_nil (sym e))
-    each (l ∷ ls) [] e = absurd (never_nil e)
-    each (l ∷ ls) (r ∷ rs) e = (clean_form l r (same_head e), each ls rs (same_rest e))
+    each [] (r ∷ rs) e = absurd (cc)
+    each (l ∷ ls) [] e = absurd (cc)
+    each (l ∷ ls) (r ∷ rs) e = (clean_form l r (cc), each ls rs (cc))
 
 pub printed_forms : (text : List ℕ) (rs : List Row) → forms_of text ≡ map Some rs → All (λ r. r.depth ≤ 15) rs → (text ≡ printed_rows rs) × All (λ r. Clean r.name) rs
 printed_forms text rs e h = (sym (joined_lines text) ∙ each (lines_of text) rs (each_one_line text) e h, clean_forms text rs e)
   where
     each : (ls : List (List ℕ)) (rs : List Row) → All OneLine ls → map form_of ls ≡ map Some rs → All (λ r. r.depth ≤ 15) rs → flat_map (λ l. l) ls ≡ printed_rows rs
     each [] [] one e h = refl
-    each [] (r ∷ rs) one e h = absurd (never_nil (sym e))
-    each (l ∷ ls) [] one e h = absurd (never_nil e)
+    each [] (r ∷ rs) one e h = absurd (cc)
+    each (l ∷ ls) [] one e h = absurd (cc)
     each (l ∷ ls) (r ∷ rs) one e h =
-        ap (λ z. z ++ flat_map (λ l. l) ls) (printed_form l r one.0 (same_head e) h.0)
-        ∙ ap (λ z. printed_row r ++ z) (each ls rs one.1 (same_rest e) h.1)
+        ap (λ z. z ++ flat_map (λ l. l) ls) (printed_form l r one.0 (cc) h.0)
+        ∙ ap (λ z. printed_row r ++ z) (each ls rs one.1 (cc) h.1)

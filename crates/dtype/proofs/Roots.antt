@@ -1,5 +1,5 @@
 -- The roots of a tree's lines are that tree, and the tree at a line is that line's subtree.
-use Rattle.std.proofs.Common.{◌≡◌, ℕ, zero, suc, ◌≤◌, cond, ltb, List, [], ◌∷◌, ◌++◌, length, sym, refl, ap, ◌∙◌, subst, inl, inr, arith, length-append}
+use Rattle.std.proofs.Common.{◌≡◌, ℕ, zero, suc, ◌≤◌, ltb, List, [], ◌∷◌, ◌++◌, length, sym, refl, ap, ◌∙◌, subst, inl, inr, arith, length-append}
 use Rattle.std.specs.List.{slice_get}
 use Rattle.std.proofs.lemmas.List.{append-nil, append_assoc}
 use Rattle.std.proofs.lemmas.Bool.{cond-true, cond-false, lt-ltb, le-ltb, cases_lt}
@@ -126,23 +126,4 @@ beyond_beyond d e le (x ∷ xs) =
           ap (beyond d) (cond-true (ltb e x.depth) (beyond e xs) (x ∷ xs) (lt-ltb e x.depth lt)) ∙ beyond_beyond d e le xs
           ∙ sym (cond-true (ltb d x.depth) (beyond d xs) (x ∷ xs) (lt-ltb d x.depth (omega arith)))
       | inr ge ↦ ap (beyond d) (cond-false (ltb e x.depth) (beyond e xs) (x ∷ xs) (le-ltb e x.depth ge))
-    ]
-
--- the lines from the first that is not deeper than d
-abbrev pub skipped : ℕ → List Row → List Row
-skipped d [] = []
-skipped d (r ∷ rs) = cond (ltb d r.depth) (skipped d rs) (r ∷ rs)
-
--- the roots that are not passed over are those of the lines that are not
-pub skip_roots : (d : ℕ) (rs : List Row) → beyond d (roots rs) ≡ roots (skipped d rs)
-skip_roots d [] = refl
-skip_roots d (r ∷ rs) =
-    elim (cases_lt d r.depth) [
-      | inl lt ↦
-          cond-true (ltb d r.depth) (beyond d (beyond r.depth (roots rs))) (with_children r (roots rs)) (lt-ltb d r.depth lt)
-          ∙ beyond_beyond d r.depth (omega arith) (roots rs) ∙ skip_roots d rs
-          ∙ ap roots (sym (cond-true (ltb d r.depth) (skipped d rs) (r ∷ rs) (lt-ltb d r.depth lt)))
-      | inr ge ↦
-          cond-false (ltb d r.depth) (beyond d (beyond r.depth (roots rs))) (with_children r (roots rs)) (le-ltb d r.depth ge)
-          ∙ ap roots (sym (cond-false (ltb d r.depth) (skipped d rs) (r ∷ rs) (le-ltb d r.depth ge)))
     ]

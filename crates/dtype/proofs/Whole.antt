@@ -1,5 +1,5 @@
 -- A text is accepted exactly when it is the printed form of a tree within the limits.
-use Rattle.std.proofs.Common.{◌≡◌, ℕ, suc, ◌+◌, ◌<◌, ◌≤◌, Bool, true, false, cond, ◌&&◌, leb, List, [], ◌∷◌, map, length, drop, Some, None, Option, sym, refl, ap, ◌∙◌, subst, arith}
+use Rattle.std.proofs.Common.{◌≡◌, ℕ, suc, ◌+◌, ◌<◌, ◌≤◌, Bool, true, false, cond, ◌&&◌, leb, List, [], ◌∷◌, map, length, Some, None, Option, sym, refl, ap, ◌∙◌, subst, arith}
 use Rattle.std.proofs.lemmas.List.{length-map}
 use Rattle.std.proofs.ByRecursion.{All-append}
 use Rattle.std.proofs.lemmas.Bool.{le-leb, leb-true, cond-true}
@@ -69,16 +69,9 @@ accepts t w =
 -- Two trees are not printed alike.
 map_some : (xs ys : List Row) → map Some xs ≡ map Some ys → xs ≡ ys
 map_some [] [] e = refl
-map_some [] (y ∷ ys) e = absurd (let z = ap length e in omega arith)
-map_some (x ∷ xs) [] e = absurd (let z = ap length e in omega arith)
-map_some (x ∷ xs) (y ∷ ys) e = both (same_some (ap (head_or (Some x)) e)) (map_some xs ys (ap (drop 1) e))
-  where
-    head_or : Option Row → List (Option Row) → Option Row
-    head_or d [] = d
-    head_or d (z ∷ zs) = z
-
-    both : x ≡ y → xs ≡ ys → x ∷ xs ≡ y ∷ ys
-    both p q = cc
+map_some [] (y ∷ ys) e = cc
+map_some (x ∷ xs) [] e = cc
+map_some (x ∷ xs) (y ∷ ys) e = let rest = map_some xs ys (cc) in cc
 
 pub printed_once : (t u : Tree) → Within t → Within u → printed t ≡ printed u → t ≡ u
 printed_once t u v w e =
@@ -88,11 +81,11 @@ printed_once t u v w e =
 -- A refusal of none: the text is within the limits, and no line is bad.
 split : (a b : Bool) (x : Option Fault) → cond (a && b) x (Some fault.Size) ≡ None → (a ≡ true) × (b ≡ true) × (x ≡ None)
 split true true x e = (refl, refl, e)
-split true false x e = absurd (never_some (sym e))
-split false b x e = absurd (never_some (sym e))
+split true false x e = absurd (cc)
+split false b x e = absurd (cc)
 
 some_line : (rs : List Row) → first_fault (map Some rs) ≡ None → (0 < length rs) × (first_bad 1 [] (map Some rs) ≡ None)
-some_line [] e = absurd (never_some (sym e))
+some_line [] e = absurd (cc)
 some_line (r ∷ rs) e = (omega arith, e)
 
 -- The lines of an accepted text are those of a tree within the limits, and the text is its printed form.
@@ -111,9 +104,9 @@ accepted text rs e f =
     depths (r ∷ rs) a = (a.0.0, depths rs a.1)
 
 -- What reading promises of an accepted text, and of a refused one.
-pub holds : (text : List ℕ) (lines : List Line) → refusal_of text ≡ None → forms_of text ≡ map Some (rows_of text lines) → (t : Tree) × Holds text lines t
+pub holds : (text : List ℕ) (lines : List Line) → refusal_of text ≡ None → forms_of text ≡ map Some (rows_of lines) → (t : Tree) × Holds text lines t
 holds text lines e f =
-    let (t, w, text_is, lines_are) = accepted text (rows_of text lines) e f in (
+    let (t, w, text_is, lines_are) = accepted text (rows_of lines) e f in (
       t,
       record {
         within = w;
@@ -126,3 +119,7 @@ holds text lines e f =
 
 pub refused : (text : List ℕ) (x : Fault) → refusal_of text ≡ Some x → (t : Tree) → Within t → text ≡ printed t → ⊥
 refused text x e t w p = never_some (sym (accepts t w) ∙ ap refusal_of (sym p) ∙ e)
+
+-- What the lines that are kept are printed as is the text.
+pub kept : (text : List ℕ) (lines : List Line) (t : Tree) → Holds text lines t → printed_rows (rows_of lines) ≡ text
+kept text lines t h = ap printed_rows h.lines_are ∙ sym h.text_is

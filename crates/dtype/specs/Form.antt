@@ -1,18 +1,18 @@
 -- The lines of a text, and what a line in form says.
-use Rattle.std.specs.Prelude.{ℕ, suc, ◌+◌, ◌-◌, ◌*◌, min, Bool, cond, not, ◌&&◌, ◌||◌, List, [], ◌∷◌, map, length, take, drop, Some, None, Option, ◌==◌, nat_lt, slice_index}
+use Rattle.std.specs.Prelude.{ℕ, ◌+◌, ◌-◌, ◌*◌, min, Bool, cond, not, ◌&&◌, ◌||◌, List, [], ◌∷◌, map, length, take, drop, Some, None, Option, ◌==◌, nat_lt, slice_index}
+use Rattle.std.specs.List.{position}
+use Rattle.std.specs.Option.{option_and_then}
 use Rattle.std.specs.Str.{all_ascii_digits}
 use Rattle.dtype.specs.Row.{Row}
 use Rattle.kinds.specs.Word.{kind_named, mark_named}
 
 -- A step, and then another where the first gives something.
 abbrev pub ◌>>=◌ : {A B : Type 0} → Option A → (A → Option B) → Option B
-◌>>=◌ None f = None
-◌>>=◌ (Some x) f = f x
+◌>>=◌ o f = option_and_then f o
 
 -- The first place of a byte.
 abbrev pub place : ℕ → List ℕ → Option ℕ
-place b [] = None
-place b (x ∷ xs) = cond (x == b) (Some 0) (◌>>=◌ (place b xs) (λ n. Some (suc n)))
+place b xs = position (λ x. x == b) xs
 
 -- The lines of a text, each with the 0A (10) that ends it; what follows the last 0A is a line too.
 abbrev pub onto : ℕ → List (List ℕ) → List (List ℕ)

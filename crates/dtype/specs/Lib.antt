@@ -6,4 +6,4 @@ pub mod Use
 pub mod Step
 pub mod Number
 pub mod Accepted
-pub mod Place
+pub mod Node

@@ -1,9 +1,8 @@
 -- What a line of a dtype text says.
-use Rattle.std.specs.Prelude.{ℕ, ◌-◌, List, map, take, drop}
+use Rattle.std.specs.Prelude.{ℕ, List, map, Option}
+use Rattle.std.specs.Option.{option_map}
 use Rattle.kinds.specs.declared.Kind.{Kind}
-use Rattle.kinds.specs.declared.Kind.TheVariants as kind
 use Rattle.kinds.specs.declared.Nullability.{Nullability}
-use Rattle.kinds.specs.declared.Nullability.TheVariants as nullability
 use Rattle.dtype.specs.declared.lines.Line.{Line}
 
 pub record Row : Type 0 where
@@ -12,18 +11,13 @@ pub record Row : Type 0 where
   pub nullability : Nullability
   pub name : List ℕ
 
--- What a line that was read says: its name is a part of the text.
-abbrev pub row_of : List ℕ → Line → Row
-row_of text l = record {
-  depth = l.depth;
-  kind = l.kind;
-  nullability = l.nullability;
-  name = take (l.name_to - l.name_from) (drop l.name_from text);
-}
+-- What a line that was read says.
+abbrev pub row_of : Line → Row
+row_of l = record { depth = l.depth; kind = l.head.kind; nullability = l.head.nullability; name = l.name.now }
 
-abbrev pub rows_of : List ℕ → List Line → List Row
-rows_of text lines = map (row_of text) lines
+abbrev pub rows_of : List Line → List Row
+rows_of lines = map row_of lines
 
--- What stands in for a line that is not there.
-abbrev pub blank : Line
-blank = record { depth = 0; kind = kind.Bool; nullability = nullability.NonNullable; name_from = 0; name_to = 0 }
+-- What is said where there may be no line.
+abbrev pub said_by : Option Line → Option Row
+said_by o = option_map row_of o

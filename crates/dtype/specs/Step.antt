@@ -1,62 +1,50 @@
 -- Reading one step at a time, for the functions inside.
-use Rattle.std.specs.Prelude.{◌≡◌, ℕ, ◌+◌, ◌-◌, ◌*◌, ◌<◌, ◌≤◌, min, Bool, true, false, cond, ◌&&◌, List, [], ◌∷◌, ◌++◌, map, length, take, drop, Some, None, Ok, Err, Option, Result, nat_lt}
+use Rattle.std.specs.Prelude.{◌≡◌, ℕ, ◌+◌, ◌-◌, ◌*◌, min, Bool, true, cond, ◌⊎◌, List, [], ◌∷◌, map, length, take, drop, Some, None, Ok, Err, vec_items, Option, Result, MatchResult}
 use Rattle.std.specs.Char.{is_ascii_digit}
-use Rattle.dtype.specs.declared.forms.Head.{Head}
+use Rattle.std.specs.declared.vec.Vec.{Vec}
+use Rattle.std.specs.declared.alloc.Global.{Global}
 use Rattle.dtype.specs.declared.faults.Fault.{Fault}
 use Rattle.dtype.specs.declared.faults.Fault.TheVariants as fault
 use Rattle.dtype.specs.declared.lines.Line.{Line}
-use Rattle.dtype.specs.Row.{Row, row_of, rows_of}
-use Rattle.dtype.specs.Form.{◌>>=◌, place, fields_of, forms_of}
+use Rattle.dtype.specs.Row.{Row, rows_of}
+use Rattle.dtype.specs.Form.{place, forms_of}
+use Rattle.dtype.specs.Order.{fits, filled, first_fault}
 
 -- The depth after more digits, where n stands for the digits so far.
 abbrev pub depth_from : ℕ → List ℕ → Option ℕ
 depth_from n [] = Some n
 depth_from n (c ∷ cs) = cond (is_ascii_digit c) (depth_from (min 16 (10 * n + (c - 48))) cs) None
 
--- A first field f, and what follows the tab (9) after it.
-pub record Cut (s f rest : List ℕ) : Type 0 where
-  pub tab : place 9 s ≡ Some (length f)
-  pub field : take (length f) s ≡ f
-  pub after : drop (length f + 1) s ≡ rest
-
--- The line that a row is, but for its name, of which it has the length.
-abbrev pub head_of : Row → Head
-head_of r = record { depth = r.depth; kind = r.kind; nullability = r.nullability; name_len = length r.name }
-
--- What a line without its 0A says, but for its name.
-abbrev pub head_in : List ℕ → Option Head
-head_in s = ◌>>=◌ (fields_of s) (λ r. Some (head_of r))
-
--- What a line says, if there is one.
-abbrev pub row_in : List ℕ → Option Line → Option Row
-row_in text None = None
-row_in text (Some l) = Some (row_of text l)
-
--- What follows the lines in form: nothing where they are whole, else a line that is not in form.
-abbrev pub ending : Bool → List (Option Row)
-ending true = []
-ending false = None ∷ []
-
--- The fault after n good lines.
-abbrev pub end_fault : ℕ → Bool → Option Fault
-end_fault n whole = cond (whole && nat_lt 0 n) None (Some (fault.Form (n + 1)))
+-- What stands before the first byte b, and what follows it.
+pub record Cut (b : ℕ) (s front rest : List ℕ) : Type 0 where
+  pub at : place b s ≡ Some (length front)
+  pub before : take (length front) s ≡ front
+  pub after : drop (length front + 1) s ≡ rest
 
 -- Refused where there is a fault.
 abbrev pub checked : Option Fault → Result (Unit {0}) Fault
 checked None = Ok tt
 checked (Some e) = Err e
 
--- A line that is in form stands at a place of a text, and the next one at another.
-pub record LineAt (text : List ℕ) (at : ℕ) (l : Line) (next : ℕ) : Type 0 where
-  pub form : forms_of (drop at text) ≡ Some (row_of text l) ∷ forms_of (drop next text)
-  pub later : at < next
-  pub inside : next ≤ length text
+-- Has the nearest of the earlier lines the child that it needs, if it needs one and this follows?
+abbrev pub last_filled : List Row → List (Option Row) → Bool
+last_filled [] rest = true
+last_filled (e ∷ es) rest = filled e rest
 
--- The line at a place is not in form.
-abbrev pub Broken : List ℕ → ℕ → Type 0
-Broken text at = at < length text → (more : List (Option Row)) × (forms_of (drop at text) ≡ None ∷ more)
+-- What is wrong where a line in form follows the earlier lines, nearest first.
+abbrev pub line_fault : List Row → Row → Option Fault
+line_fault es r =
+    cond (last_filled es (Some r ∷ []))
+    (cond (fits es r) None (Some (fault.Shape (length es + 1))))
+    (Some (fault.Shape (length es)))
 
--- The lines of a text up to the first that is not in form.
-abbrev pub LinesOf : List ℕ → List Line → Bool → Type 0
-LinesOf text lines true = forms_of text ≡ map Some (rows_of text lines)
-LinesOf text lines false = (more : List (Option Row)) × (forms_of text ≡ map Some (rows_of text lines) ++ (None ∷ more))
+-- What is wrong where the text ends after these lines, nearest first.
+abbrev pub end_fault : List Row → Option Fault
+end_fault [] = Some (fault.Form 1)
+end_fault (e ∷ es) = cond (filled e []) None (Some (fault.Shape (length (e ∷ es))))
+
+-- The lines of a text, none of them bad, or the first fault.
+abbrev pub ReadLines : List ℕ → Result (Vec Line Global) Fault → Type 0
+ReadLines text r = MatchResult r
+    (λ v. (forms_of text ≡ map Some (rows_of (vec_items v))) × (first_fault (forms_of text) ≡ None))
+    (λ e. (e ≡ fault.Memory) ⊎ (first_fault (forms_of text) ≡ Some e))

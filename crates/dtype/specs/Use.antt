@@ -48,7 +48,7 @@ tree_of rs (dtype.Bool m) = Some (Tree.node kind.Bool m Children.none)
 tree_of rs (dtype.Primitive p m) = Some (Tree.node (kind.Primitive p) m Children.none)
 
 abbrev pub lines_in : DTypeText → List Row
-lines_in d = rows_of d.text.now (vec_items d.lines)
+lines_in d = rows_of (vec_items d.lines)
 
 -- The dtype that a dtype in use means, none where there is no such line.
 abbrev pub meaning : DTypeText → DType → Option Tree

@@ -1,43 +1,43 @@
 // One line of a dtype text.
 ghost use Rattle.std.specs.Prelude.{◌≡◌, ◌<◌, length, IfSome, None as Nothing, MatchOption};
-ghost use Rattle.dtype.specs.Form.{place, depth_of};
-ghost use Rattle.dtype.specs.Step.{Cut, head_in};
+ghost use Rattle.dtype.specs.Row.{said_by};
+ghost use Rattle.dtype.specs.Form.{place, depth_of, form_of};
+ghost use Rattle.dtype.specs.Step.{Cut};
 
+use crate::lines::{Head, Line};
 use kinds::{Kind, Nullability};
 
 // The byte between two fields of a line.
 const TAB: u8 = 0x09;
 
-// The depth that stands for every depth past 15.
+// The byte that ends a line.
+pub(crate) const NEWLINE: u8 = 0x0A;
+
+// The depth that stands for every depth past 15. It is a number like the others and no case of its own, since depths are only
+// compared, and it compares with each depth up to 15 as those past 15 do.
 const TOO_DEEP: u8 = 16;
 
-// What a line says; its name is its last `name_len` bytes.
-#[derive(Clone, Copy)]
-pub(crate) struct Head {
-    pub depth: u8,
-    pub kind: Kind,
-    pub nullability: Nullability,
-    pub name_len: usize,
-}
-
 // The first place of a byte.
-pub(crate) fn place_of(bytes: &[u8], byte: u8) -> Option<usize>
+fn place_of(bytes: &[u8], byte: u8) -> Option<usize>
     ensures value { result ≡ place byte bytes.now }
     ensures bound { IfSome result (λ n. n < length bytes.now) }
 {
-    for i in 0..bytes.len() {
-        if bytes[i] == byte {
-            return Some(i);
-        }
-    }
-    None
+    bytes.iter().position(|b| *b == byte)
+}
+
+// The bytes before the first one that is `byte`, and those after it.
+fn split_once(bytes: &[u8], byte: u8) -> Option<(&[u8], &[u8])>
+    ensures { MatchOption result (place byte bytes.now ≡ Nothing) (λ p. Cut byte bytes.now p.0.now p.1.now) }
+{
+    let end = place_of(bytes, byte)?;
+    Some((&bytes[..end], &bytes[end + 1..]))
 }
 
 // The depth that decimal digits write, none where they are no number without leading zeros.
 fn depth_of(digits: &[u8]) -> Option<u8>
     ensures { result ≡ depth_of digits.now }
 {
-    if digits.is_empty() || (digits[0] == b'0' && digits.len() > 1) {
+    if let [] | [b'0', _, ..] = digits {
         return None;
     }
     let mut depth = 0;
@@ -50,31 +50,22 @@ fn depth_of(digits: &[u8]) -> Option<u8>
     Some(depth)
 }
 
-// The bytes before the first tab, and those after it.
-fn cut(bytes: &[u8]) -> Option<(&[u8], &[u8])>
-    ensures { MatchOption result (place 9 bytes.now ≡ Nothing) (λ p. Cut bytes.now p.0.now p.1.now) }
-{
-    let end = place_of(bytes, TAB)?;
-    Some((&bytes[..end], &bytes[end + 1..]))
-}
-
-// What a line without its 0A says, none where it is not in form: four fields with a tab between two.
-pub(crate) fn head_of(line: &[u8]) -> Option<Head>
-    ensures { result ≡ head_in line.now }
-{
-    let (digits, rest) = cut(line)?;
-    let depth = depth_of(digits)?;
-    let (word, rest) = cut(rest)?;
-    let kind = Kind::from_word(word)?;
-    let (word, name) = cut(rest)?;
-    let nullability = Nullability::from_word(word)?;
-    match place_of(name, TAB) {
-        Some(_) => None,
-        None => Some(Head {
-            depth,
-            kind,
-            nullability,
-            name_len: name.len(),
-        }),
+impl<'a> Line<'a> {
+    // What the bytes of a line say; none where it is not in form: four fields with a tab between two, and 0A at the end.
+    pub(crate) fn read(bytes: &'a [u8]) -> Option<Line<'a>>
+        ensures { said_by result ≡ form_of bytes.now }
+    {
+        let (fields, _) = split_once(bytes, NEWLINE)?;
+        let (digits, rest) = split_once(fields, TAB)?;
+        let depth = depth_of(digits)?;
+        let (word, rest) = split_once(rest, TAB)?;
+        let kind = Kind::try_from(word).ok()?;
+        let (word, name) = split_once(rest, TAB)?;
+        let nullability = Nullability::try_from(word).ok()?;
+        if place_of(name, TAB).is_some() {
+            return None;
+        }
+        let head = Head { kind, nullability };
+        Some(Line { depth, head, name })
     }
 }

@@ -1,14 +1,13 @@
 // Reading a dtype text.
-ghost use Rattle.std.specs.Prelude.{◌≡◌, ◌≤◌, ◌&&◌, [], length, count_by, MatchOption, MatchResult, nat_eq, nat_le};
-ghost use Rattle.dtype.specs.declared.faults.Fault.TheVariants.{Memory};
+ghost use Rattle.std.specs.Prelude.{◌≡◌, ◌&&◌, length, nat_le};
 ghost use Rattle.dtype.specs.Form.{lines_of};
 ghost use Rattle.dtype.specs.Accepted.{Reads, ReadAs};
-ghost use Rattle.dtype.specs.Step.{LineAt, Broken, LinesOf};
+ghost use Rattle.dtype.specs.Step.{ReadLines};
 
 use crate::faults::Fault;
-use crate::forms::{head_of, place_of};
+use crate::forms::NEWLINE;
 use crate::lines::{DTypeText, Line};
-use crate::order::check;
+use crate::order::{check_end, check_line};
 use std::alloc::Global;
 
 // How many bytes a text has at most.
@@ -17,71 +16,27 @@ pub const MAX_BYTES: usize = 65_536;
 // How many lines a text has at most.
 pub const MAX_LINES: usize = 256;
 
-// The byte that ends a line.
-const NEWLINE: u8 = 0x0A;
-
-// How many line ends a text has.
-fn count_ends(text: &[u8]) -> usize
-    ensures value { result ≡ count_by (λ b. nat_eq b 10) text.now }
-    ensures bound { result ≤ length text.now }
-{
-    let mut count = 0;
-    for byte in text {
-        if *byte == NEWLINE {
-            count += 1;
-        }
-    }
-    count
-}
-
 // How many lines a text has; what follows the last 0A is one.
 fn line_count(text: &[u8]) -> usize
     ensures { result ≡ length (lines_of text.now) }
 {
-    if text.is_empty() {
-        return 0;
-    }
-    let count = count_ends(text);
-    if text[text.len() - 1] == NEWLINE {
-        count
-    } else {
-        count + 1
-    }
+    text.split_inclusive(|byte| *byte == NEWLINE).count()
 }
 
-// The line at a place, and the place after it; none where it is not in form.
-fn line_at(text: &[u8], at: usize) -> Option<(Line, usize)>
-    requires { at ≤ length text.now }
-    ensures { MatchOption result (Broken text.now at) (λ p. LineAt text.now at p.0 p.1) }
+// The lines of a text, or the fault of the first that is bad.
+fn read_lines<'a>(heap: Global, text: &'a [u8]) -> Result<Vec<Line<'a>>, Fault>
+    ensures { ReadLines text.now result }
 {
-    let rest = &text[at..];
-    let end = place_of(rest, NEWLINE)?;
-    let head = head_of(&rest[..end])?;
-    let name_to = at + end;
-    let line = Line {
-        depth: head.depth,
-        kind: head.kind,
-        nullability: head.nullability,
-        name_from: name_to - head.name_len,
-        name_to,
-    };
-    Some((line, name_to + 1))
-}
-
-// The lines up to the first that is not in form. It tells whether these are all.
-fn read_lines(text: &[u8], lines: &mut Vec<Line>) -> Result<bool, Fault>
-    requires { lines.old.items ≡ [] }
-    ensures { MatchResult result (λ b. LinesOf text.now lines.new.items b) (λ e. e ≡ Memory) }
-{
-    let mut at = 0;
-    while at < text.len() {
-        let Some((line, next)) = line_at(text, at) else {
-            return Ok(false);
+    let mut lines = Vec::new(heap);
+    for bytes in text.split_inclusive(|byte| *byte == NEWLINE) {
+        let Some(line) = Line::read(bytes) else {
+            return Err(Fault::Form(lines.len() + 1));
         };
+        check_line(&lines, line)?;
         lines.push(line)?;
-        at = next;
     }
-    Ok(true)
+    check_end(&lines)?;
+    Ok(lines)
 }
 
 // Whether a text is no longer than is allowed.
@@ -100,9 +55,7 @@ impl<'a> DTypeText<'a> {
         if !is_within_limits(text) {
             return Err(Fault::Size);
         }
-        let mut lines = Vec::new(heap);
-        let is_whole = read_lines(text, &mut lines)?;
-        check(text, lines.as_slice(), is_whole)?;
-        Ok(DTypeText { text, lines })
+        let lines = read_lines(heap, text)?;
+        Ok(DTypeText { lines })
     }
 }

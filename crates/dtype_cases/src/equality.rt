@@ -1,37 +1,30 @@
 // Whether two dtypes in use are equal.
+use crate::cases::Case;
 use crate::notation::bytes_of;
 use crate::texts::dtype_of;
-use dtype::{DType, DTypeText};
+use dtype::{DTypeText, Fault};
+use replay::{CaseError, next_word};
 use std::alloc::Global;
 use std::fmt::Write;
-use std::str::SplitWhitespace;
 
-// Writes whether the dtype in use that the first word writes, of a text, equals another, whose text and dtype are the other words.
-pub fn write_equality(
-    heap: Global,
-    answer: &mut String,
-    bytes: &[u8],
-    mut words: SplitWhitespace<'_>,
-) -> Option<()> {
-    let dtype = dtype_of(words.next()?)?;
-    let letters = words.next()?;
-    let other = dtype_of(words.next()?)?;
-    let other_bytes = bytes_of(heap, letters)?;
-    compare(heap, answer, bytes, dtype, other_bytes.as_slice(), other)
-}
-
-// Writes whether a dtype equals another, and the other the first. Both texts must be accepted.
-fn compare(
-    heap: Global,
-    answer: &mut String,
-    bytes: &[u8],
-    dtype: DType,
-    other_bytes: &[u8],
-    other: DType,
-) -> Option<()> {
-    let text = DTypeText::read(heap, bytes).ok()?;
-    let other_text = DTypeText::read(heap, other_bytes).ok()?;
+// Writes whether the dtype in use that the first word writes, of a text, equals another, whose text and dtype are the other words,
+// and whether the other equals the first. Both texts must be accepted.
+pub fn write_equality(answer: &mut String, mut case: Case<'_>) -> Result<(), CaseError> {
+    let heap = *answer.allocator();
+    let dtype = dtype_of(next_word(&mut case.words)?)?;
+    let other_bytes = bytes_of(heap, next_word(&mut case.words)?)?;
+    let other = dtype_of(next_word(&mut case.words)?)?;
+    let text = accepted(heap, case.bytes.as_slice())?;
+    let other_text = accepted(heap, other_bytes.as_slice())?;
     let there = dtype.equals(&text, other, &other_text);
     let back = other.equals(&other_text, dtype, &text);
-    write!(answer, " {there} {back}").ok()
+    Ok(write!(answer, " {there} {back}")?)
+}
+
+// A text that must be accepted.
+fn accepted<'a>(heap: Global, bytes: &'a [u8]) -> Result<DTypeText<'a>, CaseError> {
+    DTypeText::read(heap, bytes).map_err(|fault| match fault {
+        Fault::Memory => CaseError::Memory,
+        _ => CaseError::NotACase,
+    })
 }

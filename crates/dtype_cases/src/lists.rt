@@ -1,82 +1,109 @@
 // Lists of ids.
-use crate::notation::{bytes_of, write_bytes, write_found};
+use crate::cases::Case;
+use crate::notation::{Found, Quoted, bytes_of};
 use ids::{Fault, Guard, Ids};
-use std::alloc::Global;
+use replay::CaseError;
+use std::alloc::AllocError;
 use std::fmt::Write;
-use std::str::SplitWhitespace;
+use std::str::FromStr;
+
+// What is done to a list.
+#[derive(Clone, Copy)]
+enum Step {
+    // An id is added.
+    Add,
+    // All ids of a file are added.
+    AddAll,
+    // Each id of a file is added under a guard, and the guard is dropped.
+    Trial,
+    // Each id of a file is added under a guard, and the guard is confirmed.
+    Keep,
+    // The first place of an id is asked for.
+    Place,
+    // The list is closed.
+    Close,
+}
+
+impl FromStr for Step {
+    type Err = CaseError;
+
+    fn from_str(word: &str) -> Result<Step, CaseError> {
+        match word {
+            "add" => Ok(Step::Add),
+            "all" => Ok(Step::AddAll),
+            "trial" => Ok(Step::Trial),
+            "keep" => Ok(Step::Keep),
+            "place" => Ok(Step::Place),
+            "close" => Ok(Step::Close),
+            _ => Err(CaseError::NotACase),
+        }
+    }
+}
 
 // Reads a file of ids, and writes the refusal, or the answers to the steps that the words write, and at last the list.
-pub fn write_lists(
-    heap: Global,
-    answer: &mut String,
-    bytes: &[u8],
-    words: SplitWhitespace<'_>,
-) -> Option<()> {
-    match ids::read(bytes) {
-        Ok(list) => write_steps(heap, answer, list, words),
-        Err(fault) => write!(answer, " refused {} at line {}", fault.number(), fault.line).ok(),
-    }
-}
-
-// Takes the steps that the words write, and writes the answers and at last the list.
-fn write_steps(
-    heap: Global,
-    answer: &mut String,
-    mut list: Ids,
-    words: SplitWhitespace<'_>,
-) -> Option<()> {
-    for word in words {
-        let (step, letters) = word.split_once('=').unwrap_or((word, ""));
-        let bytes = bytes_of(heap, letters)?;
-        take_step(answer, &mut list, step, bytes.as_slice())?;
-    }
-    write_list(answer, &list)
-}
-
-// Takes a step on a list.
-fn take_step(answer: &mut String, list: &mut Ids, step: &str, bytes: &[u8]) -> Option<()> {
-    match step {
-        "add" => write_outcome(answer, list.add(bytes)),
-        "all" => write_outcome(answer, list.add_all(&ids::read(bytes).ok()?)),
-        "trial" => try_all(answer, list, &ids::read(bytes).ok()?, false),
-        "keep" => try_all(answer, list, &ids::read(bytes).ok()?, true),
-        "place" => write_found(answer, list.place_of(bytes)),
-        "close" => {
-            list.close();
-            Some(())
+pub fn write_lists(answer: &mut String, case: Case<'_>) -> Result<(), CaseError> {
+    match ids::read(case.bytes.as_slice()) {
+        Ok(mut list) => {
+            for word in case.words {
+                take_step(answer, &mut list, word)?;
+            }
+            Ok(write_list(answer, &list)?)
         }
-        _ => None,
+        Err(fault) => {
+            let (number, line) = (fault.number(), fault.line);
+            Ok(write!(answer, " refused {number} at line {line}")?)
+        }
     }
 }
 
-// Adds each id of another list under a guard, writes the answers, and confirms or drops the guard.
-fn try_all(answer: &mut String, list: &mut Ids, other: &Ids, keeps: bool) -> Option<()> {
+// Takes the step that a word writes, with the id or the file after its `=`, and writes the answer.
+fn take_step(answer: &mut String, list: &mut Ids, word: &str) -> Result<(), CaseError> {
+    let (step, letters) = word.split_once('=').unwrap_or((word, ""));
+    let bytes = bytes_of(*answer.allocator(), letters)?;
+    match step.parse()? {
+        Step::Add => write_outcome(answer, list.add(bytes.as_slice()))?,
+        Step::AddAll => write_outcome(answer, list.add_all(&list_of(bytes.as_slice())?))?,
+        Step::Trial => drop(try_all(answer, list, &list_of(bytes.as_slice())?)?),
+        Step::Keep => try_all(answer, list, &list_of(bytes.as_slice())?)?.confirm(),
+        Step::Place => write!(answer, " {}", Found(list.place_of(bytes.as_slice())))?,
+        Step::Close => list.close(),
+    }
+    Ok(())
+}
+
+// The list that a file of ids holds, which must be accepted.
+fn list_of(bytes: &[u8]) -> Result<Ids, CaseError> {
+    ids::read(bytes).map_err(|_| CaseError::NotACase)
+}
+
+// Adds each id of another list under a guard, and writes the answers.
+fn try_all<'a>(
+    answer: &mut String,
+    list: &'a mut Ids,
+    other: &Ids,
+) -> Result<Guard<'a>, AllocError> {
     let mut guard = Guard::new(list);
-    for place in 0..other.len() {
-        write_outcome(answer, guard.add(other.get(place)?))?;
+    for id in other.iter() {
+        write_outcome(answer, guard.add(id))?;
     }
-    if keeps {
-        guard.confirm();
-    }
-    Some(())
+    Ok(guard)
 }
 
 // Writes that ids were added, or the number of the refusal.
-fn write_outcome(answer: &mut String, outcome: Result<(), Fault>) -> Option<()> {
+fn write_outcome(answer: &mut String, outcome: Result<(), Fault>) -> Result<(), AllocError> {
     match outcome {
-        Ok(()) => answer.push_str(" done").ok(),
-        Err(fault) => write!(answer, " refused {}", fault.number()).ok(),
+        Ok(()) => answer.push_str(" done"),
+        Err(fault) => write!(answer, " refused {}", fault.number()),
     }
 }
 
-// Writes whether a list is open, how many ids it has, each of them, and what is found past the last.
-fn write_list(answer: &mut String, list: &Ids) -> Option<()> {
+// Writes whether a list is open, how many ids it has, what is found at each place, and what is found at some places past the last.
+fn write_list(answer: &mut String, list: &Ids) -> Result<(), AllocError> {
     let state = if list.is_open() { "open" } else { "closed" };
     let count = list.len();
-    write!(answer, "\n  {state} {count}:").ok()?;
-    for place in 0..count.saturating_add(1) {
-        write_bytes(answer, list.get(place))?;
+    write!(answer, "\n  {state} {count}:")?;
+    for place in (0..=count).chain([256, u16::MAX]) {
+        write!(answer, " {}", Found(list.get(place).map(Quoted)))?;
     }
-    write_bytes(answer, list.get(256))?;
-    write_bytes(answer, list.get(u16::MAX))
+    Ok(())
 }

@@ -2,33 +2,16 @@
 ghost use Rattle.std.specs.Prelude.{◌≡◌};
 ghost use Rattle.dtype_cases.specs.Notation.{byte_of};
 
+use replay::{CaseError, Part, expand};
 use std::alloc::Global;
-use std::fmt::{Display, Write};
+use std::fmt;
+use std::fmt::Display;
 
-// The bytes that a word writes in parts between `|`.
-pub fn bytes_of(heap: Global, word: &str) -> Option<Vec<u8>> {
-    let mut bytes = Vec::new(heap);
-    for part in word.split('|') {
-        add_part(&mut bytes, part)?;
-    }
-    Some(bytes)
-}
-
-// Adds the bytes of a part. It may end with how often it is repeated, as in `a*64`.
-fn add_part(bytes: &mut Vec<u8>, part: &str) -> Option<()> {
-    let (letters, times) = part.split_once('*').unwrap_or((part, "1"));
-    for _ in 0..times.parse::<u32>().ok()? {
-        add_letters(bytes, letters)?;
-    }
-    Some(())
-}
-
-// Adds the bytes of letters.
-fn add_letters(bytes: &mut Vec<u8>, letters: &str) -> Option<()> {
-    for letter in letters.bytes() {
-        bytes.push(byte_of(letter)).ok()?;
-    }
-    Some(())
+// The bytes that a word writes in parts between `|`. A part may end with how often it is repeated, as in `a*64`.
+pub fn bytes_of(heap: Global, word: &str) -> Result<Vec<u8>, CaseError> {
+    let parts: Vec<Part<'_>> = word.split('|').map(Part::try_from).try_collect(heap)?;
+    let letters = expand(heap, parts.as_slice())?;
+    Ok(letters.bytes().map(byte_of).collect(heap)?)
 }
 
 // The byte that a letter writes: some letters stand for bytes that cannot be written in a word, or could hardly be read there,
@@ -48,18 +31,25 @@ fn byte_of(letter: u8) -> u8
     }
 }
 
-// Writes a space, and then what was found, or `-` where nothing was.
-pub fn write_found<T: Display + Drop>(answer: &mut String, found: Option<T>) -> Option<()> {
-    match found {
-        Some(found) => write!(answer, " {found}").ok(),
-        None => answer.push_str(" -").ok(),
+// What was found, written as `-` where nothing was.
+#[derive(Drop)]
+pub struct Found<T>(pub Option<T>);
+
+impl<T: Display> Display for Found<T> {
+    fn fmt<W: fmt::Write>(&self, f: &mut fmt::Formatter<W>) -> fmt::Result {
+        match &self.0 {
+            Some(found) => write!(f, "{found}"),
+            None => f.write_str("-"),
+        }
     }
 }
 
-// Writes a space, and then bytes in quotes, or `-` where there are none.
-pub fn write_bytes(answer: &mut String, found: Option<&[u8]>) -> Option<()> {
-    match found {
-        Some(bytes) => write!(answer, " \"{}\"", bytes.escape_ascii()).ok(),
-        None => answer.push_str(" -").ok(),
+// Bytes, written in quotes.
+#[derive(Clone, Copy)]
+pub struct Quoted<'a>(pub &'a [u8]);
+
+impl Display for Quoted<'_> {
+    fn fmt<W: fmt::Write>(&self, f: &mut fmt::Formatter<W>) -> fmt::Result {
+        write!(f, "\"{}\"", self.0.escape_ascii())
     }
 }

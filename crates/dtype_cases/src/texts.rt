@@ -1,114 +1,92 @@
 // Reading dtype texts, and dtypes in use.
-use crate::notation::{write_bytes, write_found};
-use dtype::{DType, DTypeText, Fault, Kind, Nullability, PType};
-use std::alloc::Global;
+use crate::cases::Case;
+use crate::notation::{Found, Quoted};
+use dtype::{DType, DTypeText, Fault, Kind, Nullability, PType, Word};
+use replay::{CaseError, next_word};
+use std::alloc::AllocError;
 use std::fmt::Write;
-use std::str::SplitWhitespace;
 
 // Reads a text, and writes the refusal, or all its lines and the dtypes in use that the words write.
-pub fn write_reading(
-    heap: Global,
-    answer: &mut String,
-    bytes: &[u8],
-    words: SplitWhitespace<'_>,
-) -> Option<()> {
-    match DTypeText::read(heap, bytes) {
+pub fn write_reading(answer: &mut String, case: Case<'_>) -> Result<(), CaseError> {
+    match DTypeText::read(*answer.allocator(), case.bytes.as_slice()) {
         Ok(text) => {
             write_lines(answer, &text)?;
-            write_uses(answer, &text, words)
+            for word in case.words {
+                write!(answer, "\n  {word}:")?;
+                write_dtype(answer, &text, dtype_of(word)?)?;
+            }
+            Ok(())
         }
         Err(fault) => write_refusal(answer, fault),
     }
 }
 
 // Writes the number of a refusal, and the line that is bad, if one is. Want of memory has no number, and no answer.
-fn write_refusal(answer: &mut String, fault: Fault) -> Option<()> {
-    let number = fault.number()?;
-    write!(answer, " refused {number} at line").ok()?;
-    write_found(answer, fault.line())
+fn write_refusal(answer: &mut String, fault: Fault) -> Result<(), CaseError> {
+    let number = fault.number().ok_or(CaseError::Memory)?;
+    let line = Found(fault.line());
+    Ok(write!(answer, " refused {number} at line {line}")?)
 }
 
 // Writes each line of a text, from the number before the first to the one after the last.
-fn write_lines(answer: &mut String, text: &DTypeText) -> Option<()> {
-    answer.push_str(" accepted").ok()?;
-    for number in 0..text.line_count().saturating_add(2) {
-        write!(answer, "\n  {number}:").ok()?;
+fn write_lines(answer: &mut String, text: &DTypeText) -> Result<(), AllocError> {
+    answer.push_str(" accepted")?;
+    for number in 0..=text.line_count().saturating_add(1) {
+        write!(answer, "\n  {number}:")?;
         write_dtype(answer, text, DType::Line(number))?;
     }
-    Some(())
-}
-
-// Writes each dtype in use that the words write.
-fn write_uses(answer: &mut String, text: &DTypeText, words: SplitWhitespace<'_>) -> Option<()> {
-    for word in words {
-        write!(answer, "\n  {word}:").ok()?;
-        write_dtype(answer, text, dtype_of(word)?)?;
-    }
-    Some(())
+    Ok(())
 }
 
 // The dtype that a word writes: the number of a line, or a kind and a null mark with a comma between them.
-pub fn dtype_of(word: &str) -> Option<DType> {
+pub fn dtype_of(word: &str) -> Result<DType, CaseError> {
     let Some((kind, mark)) = word.split_once(',') else {
-        return Some(DType::Line(word.parse::<usize>().ok()?));
+        return Ok(DType::Line(word.parse::<usize>()?));
     };
-    let nullability = Nullability::from_word(mark.as_bytes())?;
-    match Kind::from_word(kind.as_bytes())? {
-        Kind::Bool => Some(DType::Bool(nullability)),
-        Kind::Primitive(ptype) => Some(DType::Primitive(ptype, nullability)),
-        _ => None,
+    let kind = Kind::try_from(kind.as_bytes()).or(Err(CaseError::NotACase))?;
+    let nullability = Nullability::try_from(mark.as_bytes()).or(Err(CaseError::NotACase))?;
+    match kind {
+        Kind::Bool => Ok(DType::Bool(nullability)),
+        Kind::Primitive(ptype) => Ok(DType::Primitive(ptype, nullability)),
+        _ => Err(CaseError::NotACase),
     }
 }
 
 // Writes the kind of a dtype, its null mark, the number of its children, the next line that is not below it, and the children.
-fn write_dtype(answer: &mut String, text: &DTypeText, dtype: DType) -> Option<()> {
-    let count = dtype.child_count(text);
-    write_kind(answer, dtype.kind(text))?;
-    write_mark(answer, dtype.nullability(text))?;
-    write_found(answer, count)?;
-    write_found(answer, dtype.next_line(text))?;
-    write_children(answer, text, dtype, count.unwrap_or(0))
+fn write_dtype(answer: &mut String, text: &DTypeText, dtype: DType) -> Result<(), AllocError> {
+    let kind = Found(dtype.kind(text).map(Kind::word));
+    let mark = Found(dtype.nullability(text).map(Nullability::word));
+    let count = Found(dtype.child_count(text));
+    let next = Found(dtype.next_line(text));
+    write!(answer, " {kind} {mark} {count} {next}")?;
+    write_children(answer, text, dtype)
 }
 
-fn write_kind(answer: &mut String, kind: Option<Kind>) -> Option<()> {
-    match kind {
-        Some(kind) => write_found(answer, Some(kind.word())),
-        None => answer.push_str(" -").ok(),
-    }
-}
-
-fn write_mark(answer: &mut String, mark: Option<Nullability>) -> Option<()> {
-    match mark {
-        Some(nullability) => write_found(answer, Some(nullability.word())),
-        None => answer.push_str(" -").ok(),
-    }
-}
-
-// Writes the line and the name of each child, and what is found past the last.
-fn write_children(answer: &mut String, text: &DTypeText, dtype: DType, count: usize) -> Option<()> {
-    for k in 0..count.saturating_add(1) {
+// Writes the name and the line of each child, and what is found past the last: the place after it is asked for too.
+fn write_children(answer: &mut String, text: &DTypeText, dtype: DType) -> Result<(), AllocError> {
+    for k in 0..=dtype.child_count(text).unwrap_or(0) {
         let Some(child) = dtype.child(text, k) else {
-            return answer.push_str(" -").ok();
+            return answer.push_str(" -");
         };
-        write_bytes(answer, Some(child.name))?;
+        write!(answer, " {}", Quoted(child.name))?;
         if let DType::Line(line) = child.dtype {
-            write_found(answer, Some(line))?;
+            write!(answer, " {line}")?;
         }
     }
-    Some(())
+    Ok(())
 }
 
 // Writes the kind that a word stands for, with its number if it is a number type, the null mark that it stands for, and the
 // number type that a number stands for.
-pub fn write_word(answer: &mut String, bytes: &[u8], mut words: SplitWhitespace<'_>) -> Option<()> {
-    let kind = Kind::from_word(bytes);
-    write_kind(answer, kind)?;
+pub fn write_word(answer: &mut String, mut case: Case<'_>) -> Result<(), CaseError> {
+    let number = next_word(&mut case.words)?.parse::<u32>()?;
+    let word = case.bytes.as_slice();
+    let kind = Kind::try_from(word).ok();
+    write!(answer, " {}", Found(kind.map(Kind::word)))?;
     if let Some(Kind::Primitive(ptype)) = kind {
-        write_found(answer, Some(ptype.number()))?;
+        write!(answer, " {}", u32::from(ptype))?;
     }
-    write_mark(answer, Nullability::from_word(bytes))?;
-    match PType::from_number(words.next()?.parse::<u32>().ok()?) {
-        Some(ptype) => write_found(answer, Some(ptype.word())),
-        None => answer.push_str(" -").ok(),
-    }
+    let mark = Found(Nullability::try_from(word).ok().map(Nullability::word));
+    let named = Found(PType::try_from(number).ok().map(PType::word));
+    Ok(write!(answer, " {mark} {named}")?)
 }

@@ -5,7 +5,7 @@ use Rattle.std.proofs.lemmas.Bool.{cases_Bool, eqb-true, eqb-false, ne_eqb, ltb-
 use Rattle.ids.specs.declared.faults.Fault.{Fault}
 use Rattle.ids.specs.declared.faults.Fault.TheVariants.{Length, Full}
 use Rattle.ids.specs.declared.faults.ReadFault.{ReadFault}
-use Rattle.ids.specs.Value.{Sized}
+use Rattle.ids.specs.Size.{Sized}
 use Rattle.ids.specs.Add.{fitting}
 use Rattle.ids.specs.Lines.{onto, lines_of, at_line, after, read_lines, ids_in}
 use Rattle.ids.specs.File.{OneLine, Writable, written, IsFile, Only, NoFile}
@@ -25,8 +25,8 @@ verdict f g = cond f (cond g (Ok tt) (Err Full)) (Err Length)
 
 step : (f g : Bool) (n : ℕ) (next : Result (List (List ℕ)) ReadFault) (ids : List (List ℕ)) → after (at_line n (verdict f g)) next ≡ Ok ids → (f ≡ true) × (g ≡ true) × (next ≡ Ok ids)
 step true true n next ids e = (refl, refl, e)
-step true false n next ids e = let z : ◌≡◌ {A = ℕ} 0 1 = cc in let no' : ⊥ = omega arith in absurd no'
-step false g n next ids e = let z : ◌≡◌ {A = ℕ} 0 1 = cc in let no' : ⊥ = omega arith in absurd no'
+step true false n next ids e = cc
+step false g n next ids e = cc
 
 taken : (ids ls all : List (List ℕ)) → read_lines ids ls ≡ Ok all → (all ≡ ids ++ ls) × Fit ls × (length ids ≤ 64 → length (ids ++ ls) ≤ 64)
 taken ids [] all e = (sym (cc) ∙ sym (append-nil ids), tt, λ h. rw append-nil h)
@@ -125,4 +125,4 @@ pub only : (t : List ℕ) (ids : List (List ℕ)) → ids_in t ≡ Ok ids → On
 only t ids e others h = let k = read_whole t others h in cc
 
 pub none : (t : List ℕ) (f : ReadFault) → ids_in t ≡ Err f → NoFile t
-none t f e ids h = let k = read_whole t ids h in let z : ◌≡◌ {A = ℕ} 0 1 = cc in omega arith
+none t f e ids h = let k = read_whole t ids h in cc

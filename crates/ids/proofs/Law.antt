@@ -1,7 +1,7 @@
 -- What the answer of the reader says of the text.
-use Rattle.std.proofs.Common.{◌≡◌, ℕ, true, List, Ok, Err, Result, arith, MatchResult}
+use Rattle.std.proofs.Common.{◌≡◌, ℕ, true, List, Ok, Err, Result, MatchResult}
 use Rattle.ids.specs.declared.faults.ReadFault.{ReadFault}
-use Rattle.ids.specs.declared.record.Ids.{Ids}
+use Rattle.ids.specs.declared.list.Ids.{Ids}
 use Rattle.ids.specs.Value.{ids_of, is_open}
 use Rattle.ids.specs.Lines.{ids_in}
 use Rattle.ids.specs.File.{IsFile, Only, NoFile, WrongAt}
@@ -13,7 +13,7 @@ abbrev Value : List ℕ → Result Ids ReadFault → Type 0
 Value t r = MatchResult r (λ s. (ids_in t ≡ Ok (ids_of s)) × (is_open s ≡ true)) (λ e. ids_in t ≡ Err e)
 
 pub refused : (t : List ℕ) (r : Result Ids ReadFault) (e d : ReadFault) → ids_in t ≡ Err e → r ≡ Err d → d ≡ e → Value t r
-refused t (Ok s) e d p q k = let z : ◌≡◌ {A = ℕ} 0 1 = cc in let no' : ⊥ = omega arith in absurd no'
+refused t (Ok s) e d p q k = cc
 refused t (Err x) e d p q k = cc
 
 pub lawful : (t : List ℕ) (r : Result Ids ReadFault) → Value t r → MatchResult r (λ s. IsFile t (ids_of s) × Only t (ids_of s)) (λ e. NoFile t × WrongAt t e)

@@ -1,6 +1,6 @@
-pub mod Adding
 pub mod Files
 pub mod Law
+pub mod Pieces
 pub mod Reading
 pub mod Refusals
 pub mod Splits

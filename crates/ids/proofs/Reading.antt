@@ -1,7 +1,6 @@
 -- One line more, of a text of which t is left.
-use Rattle.std.proofs.Common.{◌≡◌, ℕ, ◌+◌, ◌<◌, Bool, true, eqb, List, [], ◌∷◌, ◌++◌, length, Ok, Err, Result, sym, ap, ◌∙◌}
+use Rattle.std.proofs.Common.{◌≡◌, ℕ, ◌+◌, ◌<◌, Bool, true, List, [], ◌∷◌, ◌++◌, length, Ok, Err, Result, sym, ap, ◌∙◌}
 use Rattle.std.proofs.lemmas.List.{nil_from_length}
-use Rattle.std.proofs.lemmas.Bool.{eqb-true}
 use Rattle.ids.specs.declared.faults.Fault.{Fault}
 use Rattle.ids.specs.declared.faults.ReadFault.{ReadFault}
 use Rattle.ids.specs.Add.{added, joined}
@@ -25,5 +24,5 @@ module _ (ids : List (List ℕ)) (o : Bool) (t line rest : List ℕ) (h : 0 < le
   read_stops e a = next ∙ ap (λ (z : Result (Unit {0}) ReadFault). after z (read_lines (ids ++ line ∷ []) (lines_of rest))) (sym a)
 
 -- Nothing is left.
-pub read_ends : (ids : List (List ℕ)) (t : List ℕ) → true ≡ eqb (length t) 0 → read_lines ids (lines_of t) ≡ Ok ids
-read_ends ids t h = ap (λ (z : List ℕ). read_lines ids (lines_of z)) (nil_from_length t (eqb-true (length t) 0 (sym h)))
+pub read_ends : (ids : List (List ℕ)) (t : List ℕ) → length t ≡ 0 → read_lines ids (lines_of t) ≡ Ok ids
+read_ends ids t h = ap (λ (z : List ℕ). read_lines ids (lines_of z)) (nil_from_length t h)

@@ -4,7 +4,7 @@ use Rattle.std.proofs.lemmas.List.{append-nil, length_push}
 use Rattle.std.proofs.lemmas.Bool.{both_ways, cases_Bool, eqb-true, ltb-true, ltb-false, leb-true, le-leb, and_parts, and_from}
 use Rattle.ids.specs.declared.faults.Fault.TheVariants.{Length, Full}
 use Rattle.ids.specs.declared.faults.ReadFault.{ReadFault}
-use Rattle.ids.specs.Value.{Sized}
+use Rattle.ids.specs.Size.{Sized}
 use Rattle.ids.specs.Add.{fitting}
 use Rattle.ids.specs.Lines.{first_line, after_line, lines_of, at_line, after, read_lines, ids_in}
 use Rattle.ids.specs.File.{OneLine, written, Meets, Wrong, WrongAt}
@@ -69,7 +69,7 @@ stop_at false w ids l ls f h v k more e =
     subst P q (record { front = []; line = l; behind = ls; are = refl; fit = tt; few = omega arith; at = omega arith; why = unsized l v })
 
 stops : (ids ls : List (List ℕ)) (f : ReadFault) → length ids ≤ 64 → read_lines ids ls ≡ Err f → Stop ids ls f
-stops ids [] f h e = let z : ◌≡◌ {A = ℕ} 0 1 = cc in let no' : ⊥ = omega arith in absurd no'
+stops ids [] f h e = cc
 stops ids (l ∷ ls) f h e = stop_at (fitting l) (ltb (length ids) 64) ids l ls f h refl refl (λ k r. stops (ids ++ l ∷ []) ls f k r) e
 
 -- The first line in the text itself.
@@ -84,8 +84,8 @@ heads : (x y : List ℕ) (xs ys : List (List ℕ)) → x ∷ xs ≡ y ∷ ys →
 heads x y xs ys e = (cc, cc)
 
 not_none : (front behind : List (List ℕ)) (line : List ℕ) → [] ≡ front ++ line ∷ behind → ⊥
-not_none [] behind line e = let z : ◌≡◌ {A = ℕ} 0 1 = cc in omega arith
-not_none (x ∷ front) behind line e = let z : ◌≡◌ {A = ℕ} 0 1 = cc in omega arith
+not_none [] behind line e = cc
+not_none (x ∷ front) behind line e = cc
 
 meets_first : (t line : List ℕ) → 0 < length t → first_line t ≡ line → Meets t [] line
 meets_first t line h e = elim (ends_or_not t) [

@@ -3,7 +3,7 @@ use Rattle.std.specs.Prelude.{◌≡◌, ℕ, ◌+◌, ◌≤◌, ◌⊎◌, Lis
 use Rattle.ids.specs.declared.faults.Fault.{Fault}
 use Rattle.ids.specs.declared.faults.Fault.TheVariants.{Length, Full, Closed}
 use Rattle.ids.specs.declared.faults.ReadFault.{ReadFault}
-use Rattle.ids.specs.Value.{Sized}
+use Rattle.ids.specs.Size.{Sized}
 
 -- No byte is 0A.
 abbrev pub OneLine : List ℕ → Type 0

@@ -4,4 +4,5 @@ pub mod File
 pub mod Guard
 pub mod Lines
 pub mod Place
+pub mod Size
 pub mod Value

@@ -5,7 +5,7 @@ ghost use Rattle.ids.specs.Place.{FirstPlace};
 ghost use Rattle.ids.specs.Guard.{held, before, open_through};
 
 use crate::faults::Fault;
-use crate::record::Ids;
+use crate::list::Ids;
 
 // Lets ids be added to a list for a trial. Dropped, it takes the ids that were added through it off the end again, so that the
 // list is as it was when the guard was made. Confirmed, it leaves them there.

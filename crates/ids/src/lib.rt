@@ -2,15 +2,14 @@
 // made, so that no call lacks memory.
 #![tactic(auto)]
 
-mod all;
 mod faults;
 mod guard;
-mod id;
+mod iter;
 mod list;
 mod reader;
-mod record;
 
 pub use faults::{Fault, ReadFault};
 pub use guard::Guard;
+pub use iter::Iter;
+pub use list::{Ids, MOST_BYTES, MOST_IDS};
 pub use reader::read;
-pub use record::{Ids, MOST_BYTES, MOST_IDS};

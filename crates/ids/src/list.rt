@@ -1,26 +1,45 @@
-ghost use Rattle.std.specs.Prelude.{◌≡◌, ◌-◌, ◌<◌, ◌≤◌, true, false, [], ◌∷◌, ◌++◌, length, take, IfSome, OnErr, slice_index_or};
-ghost use Rattle.ids.specs.Value.{id_of, ids_of, is_open, Sized};
-ghost use Rattle.ids.specs.Add.{added, joined};
-ghost use Rattle.ids.specs.Place.{IdAt, FirstPlace};
+ghost use Rattle.std.specs.Prelude.{◌≤◌, length, All};
+ghost use Rattle.std.proofs.Props.{props};
+ghost use Rattle.ids.specs.Size.{Sized};
 
 use crate::faults::Fault;
-use crate::id::same_bytes;
-use crate::record::{Id, Ids, MOST_BYTES, MOST_IDS};
+use crate::guard::Guard;
+use crate::iter::Iter;
+use arrayvec::ArrayVec;
+
+// The most ids that a list holds.
+pub const MOST_IDS: u16 = 64;
+
+// The most bytes that an id has.
+pub const MOST_BYTES: usize = 64;
+
+const ROOM: usize = MOST_IDS as usize;
+
+pub(crate) type Id = ArrayVec<u8, MOST_BYTES>;
+
+// A list of at most 64 ids of 1 to 64 bytes, with the room for all of them. These facts are ghost fields and not the invariant
+// of a Model, so that callers know them of every list.
+#[derive(Drop)]
+pub struct Ids {
+    list: ArrayVec<Id, ROOM>,
+    closed: bool,
+    pub ghost within: { length list.items ≤ 64 },
+    pub ghost sized: { All (λ id. Sized id.items) list.items } by { Prim.hlevel props },
+}
 
 impl Ids {
+    ghost use Rattle.std.specs.Prelude.{◌≡◌, ◌-◌, true, false, [], take, IfSome, OnErr};
+    ghost use Rattle.ids.specs.Value.{ids_of, is_open};
+    ghost use Rattle.ids.specs.Add.{added, joined, added_all, joined_all};
+    ghost use Rattle.ids.specs.Place.{IdAt, FirstPlace};
+
     // An open list with no ids.
     pub fn new() -> Ids
         ensures ids { ids_of result ≡ [] }
         ensures state { is_open result ≡ true }
     {
-        // Room that no id has yet holds an id of one byte.
-        let blank = Id {
-            bytes: [0; 64],
-            len: 1,
-        };
         Ids {
-            room: [blank; 64],
-            count: 0,
+            list: ArrayVec::new(),
             closed: false,
         }
     }
@@ -30,7 +49,7 @@ impl Ids {
         ensures count { result ≡ length (ids_of self.now) }
         ensures most { result ≤ 64 }
     {
-        self.count as u16
+        self.list.len() as u16
     }
 
     // Does the list take more ids?
@@ -48,27 +67,30 @@ impl Ids {
         self.closed = true;
     }
 
+    // The ids in their order.
+    pub fn iter(&self) -> Iter<'_>
+        ensures { result ≡ ids_of self.now }
+    {
+        Iter {
+            ids: self.list.as_slice(),
+        }
+    }
+
     // The id at a place, from 0, or none past the last.
     pub fn get(&self, place: u16) -> Option<&[u8]>
         ensures id { IdAt (ids_of self.now) place result }
         ensures size { IfSome result (λ id. Sized id.now) }
     {
-        if place >= self.len() {
-            return None;
-        }
-        Some(self.id_at(place))
+        let id = self.list.get(usize::from(place))?;
+        Some(id.as_slice())
     }
 
     // The first place of an id, or none where the list does not have it.
     pub fn place_of(&self, id: &[u8]) -> Option<u16>
         ensures { FirstPlace (ids_of self.now) id.now result }
     {
-        for place in 0..self.len() {
-            if same_bytes(self.id_at(place), id) {
-                return Some(place);
-            }
-        }
-        None
+        let place = self.iter().position(|other| other == id)?;
+        Some(place as u16)
     }
 
     // Adds an id at the end, or refuses it and leaves the list exactly as it was. An id may stand in the list several times.
@@ -78,46 +100,32 @@ impl Ids {
         ensures state { is_open self.new ≡ is_open self.old }
         ensures refused { OnErr result (self.new ≡ self.old) }
     {
-        self.check(id)?;
-        self.push(Id::of(id));
-        Ok(())
-    }
-
-    // The id at a place below the length.
-    pub(crate) fn id_at(&self, place: u16) -> &[u8]
-        requires { place < length (ids_of self.now) }
-        ensures id { result.now ≡ slice_index_or (ids_of self.now) place [] }
-        ensures size { Sized result.now }
-    {
-        let id = &self.room[place as usize];
-        id.as_bytes()
-    }
-
-    // Would the id be added?
-    fn check(&self, id: &[u8]) -> Result<(), Fault>
-        ensures { result ≡ added (ids_of self.now) (is_open self.now) id.now }
-    {
-        if id.is_empty() || id.len() > MOST_BYTES {
+        if id.is_empty() {
             return Err(Fault::Length);
         }
+        let id = ArrayVec::try_from(id).map_err(|_| Fault::Length)?;
         if self.closed {
             return Err(Fault::Closed);
         }
-        if self.len() >= MOST_IDS {
+        if self.list.is_full() {
             return Err(Fault::Full);
         }
+        self.list.push(id);
         Ok(())
     }
 
-    // Writes an id behind the last one.
-    fn push(&mut self, id: Id)
-        requires { length (ids_of self.old) < 64 }
-        ensures ids { ids_of self.new ≡ ids_of self.old ++ id_of id ∷ [] }
+    // Adds all ids of another list in their order, or none: at the first refusal the list is as it was.
+    pub fn add_all(&mut self, other: &Ids) -> Result<(), Fault>
+        ensures answer { result ≡ added_all (ids_of self.old) (is_open self.old) (ids_of other.now) }
+        ensures ids { ids_of self.new ≡ joined_all result (ids_of self.old) (ids_of other.now) }
         ensures state { is_open self.new ≡ is_open self.old }
     {
-        let place = self.count as usize;
-        self.room[place] = id;
-        self.count += 1;
+        let mut guard = Guard::new(self);
+        for id in other.iter() {
+            guard.add(id)?;
+        }
+        guard.confirm();
+        Ok(())
     }
 
     // Takes the last ids off, so many as `last` says, or all where there are fewer.
@@ -125,6 +133,7 @@ impl Ids {
         ensures ids { ids_of self.new ≡ take (length (ids_of self.old) - last) (ids_of self.old) }
         ensures state { is_open self.new ≡ is_open self.old }
     {
-        self.count = self.count.saturating_sub(last);
+        let len = self.list.len().saturating_sub(usize::from(last));
+        self.list.truncate(len);
     }
 }

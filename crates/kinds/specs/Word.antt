@@ -1,5 +1,6 @@
 -- The words of a dtype text, and the numbers of the number types.
-use Rattle.std.specs.Prelude.{ℕ, cond, List, [], ◌∷◌, Some, None, codes, Option}
+use Rattle.std.specs.Prelude.{◌≡◌, ◌≢◌, ℕ, List, [], ◌∷◌, codes, Option, Result, MatchResult, find}
+use Rattle.std.specs.Result.{result_ok}
 use Rattle.std.specs.Str.{bytes_eq}
 use Rattle.kinds.specs.declared.PType.{PType}
 use Rattle.kinds.specs.declared.PType.TheVariants as ptype
@@ -48,10 +49,14 @@ abbrev pub mark_word : Nullability → List ℕ
 mark_word nullability.NonNullable = codes "req"
 mark_word nullability.Nullable = codes "null"
 
--- The first of some kinds, or of some null marks, that a word stands for.
+-- The first of some values that a word stands for, where f gives the word of each.
 abbrev pub named : {A : Type 0} → (A → List ℕ) → List ℕ → List A → Option A
-named f w [] = None
-named f w (x ∷ xs) = cond (bytes_eq w (f x)) (Some x) (named f w xs)
+named f w xs = find (λ x. bytes_eq w (f x)) xs
+
+-- Every number type, every kind, and every null mark.
+abbrev pub ptypes : List PType
+ptypes = ptype.U8 ∷ ptype.U16 ∷ ptype.U32 ∷ ptype.U64 ∷ ptype.I8 ∷ ptype.I16 ∷ ptype.I32 ∷ ptype.I64
+    ∷ ptype.F16 ∷ ptype.F32 ∷ ptype.F64 ∷ []
 
 abbrev pub kinds : List Kind
 kinds = kind.Bool ∷ kind.Utf8 ∷ kind.Binary ∷ kind.List ∷ kind.Struct
@@ -59,8 +64,18 @@ kinds = kind.Bool ∷ kind.Utf8 ∷ kind.Binary ∷ kind.List ∷ kind.Struct
     ∷ kind.Primitive ptype.I8 ∷ kind.Primitive ptype.I16 ∷ kind.Primitive ptype.I32 ∷ kind.Primitive ptype.I64
     ∷ kind.Primitive ptype.F16 ∷ kind.Primitive ptype.F32 ∷ kind.Primitive ptype.F64 ∷ []
 
+abbrev pub marks : List Nullability
+marks = nullability.NonNullable ∷ nullability.Nullable ∷ []
+
+-- The kind, or the null mark, that a word stands for.
 abbrev pub kind_named : List ℕ → Option Kind
 kind_named w = named kind_word w kinds
 
 abbrev pub mark_named : List ℕ → Option Nullability
-mark_named w = named mark_word w (nullability.NonNullable ∷ nullability.Nullable ∷ [])
+mark_named w = named mark_word w marks
+
+-- The answer for a word, where f gives the word of each of the values xs: the value that it stands for, or an error where it
+-- stands for none.
+pub record ReadsWord {A E : Type 0} (f : A → List ℕ) (xs : List A) (w : List ℕ) (r : Result A E) : Type 0 where
+  pub value : result_ok r ≡ named f w xs
+  pub named : MatchResult r (λ x. w ≡ f x) (λ _. (x : A) → w ≢ f x)

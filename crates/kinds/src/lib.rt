@@ -1,27 +1,34 @@
 // What a dtype is at its top: its kind, and whether its values may be null. The words are those of a dtype text.
 #![tactic(auto)]
 
-ghost use Rattle.std.specs.Prelude.{◌≡◌, MatchOption, ◌≢◌};
-ghost use Rattle.std.specs.Str.{bytes_eq};
-ghost use Rattle.kinds.specs.Word.{ptype_number, ptype_word, kind_word, mark_word, kind_named, mark_named, named};
+ghost use Rattle.std.specs.Prelude.{◌≡◌, ◌≢◌, MatchResult};
+ghost use Rattle.kinds.specs.declared.PType.{PType};
+ghost use Rattle.kinds.specs.Word.{ptype_number, ptype_word, ptypes, kind_word, kinds, mark_word, marks, ReadsWord};
+ghost use Rattle.kinds.specs.Distinct.{ptype_word_lem, kind_word_lem, mark_word_lem};
 
-// A number type. `number` gives each its number, 0 to 10.
-#[derive(Clone, Copy, PartialEq)]
+mod word;
+
+use thiserror::Error;
+use word::from_word;
+pub use word::{UnknownWord, Word};
+
+// A number type, with the number under which files store it.
+#[derive(Clone, Copy, Debug, PartialEq, Eq, Hash)]
 pub enum PType {
-    U8,
-    U16,
-    U32,
-    U64,
-    I8,
-    I16,
-    I32,
-    I64,
-    F16,
-    F32,
-    F64,
+    U8 = 0,
+    U16 = 1,
+    U32 = 2,
+    U64 = 3,
+    I8 = 4,
+    I16 = 5,
+    I32 = 6,
+    I64 = 7,
+    F16 = 8,
+    F32 = 9,
+    F64 = 10,
 }
 
-#[derive(Clone, Copy, PartialEq)]
+#[derive(Clone, Copy, Debug, PartialEq, Eq, Hash)]
 pub enum Kind {
     Bool,
     Utf8,
@@ -32,88 +39,73 @@ pub enum Kind {
 }
 
 // Whether there may be nulls among the values: the null mark.
-#[derive(Clone, Copy, PartialEq)]
+#[derive(Clone, Copy, Debug, PartialEq, Eq, Hash)]
 pub enum Nullability {
     NonNullable,
     Nullable,
 }
 
-// Whether a word is a text.
-fn is_word(word: &[u8], text: &str) -> bool
-    ensures { result ≡ bytes_eq word.now text.now }
-{
-    word == text.as_bytes()
-}
+// No number type has the number.
+#[derive(Clone, Copy, Debug, PartialEq, Eq, Error)]
+#[error("the number stands for no number type")]
+pub struct UnknownNumber;
 
-// The first of some kinds that a word stands for.
-fn first_named(word: &[u8], kinds: &[Kind]) -> Option<Kind>
-    ensures { result ≡ named kind_word word.now kinds.now }
-{
-    for kind in kinds {
-        if is_word(word, kind.word()) {
-            return Some(*kind);
-        }
-    }
-    None
-}
+impl From<PType> for u32 {
+    ghost from_gives = { λ ptype number. number ≡ ptype_number ptype };
 
-// The null mark that a word stands for.
-fn marked(word: &[u8]) -> Option<Nullability>
-    ensures { result ≡ mark_named word.now }
-{
-    if is_word(word, "req") {
-        Some(Nullability::NonNullable)
-    } else if is_word(word, "null") {
-        Some(Nullability::Nullable)
-    } else {
-        None
+    fn from(ptype: PType) -> u32 {
+        ptype as u32
     }
 }
 
-impl PType {
-    // The number under which files store it.
-    pub fn number(self) -> u32
-        ensures { result ≡ ptype_number self }
-    {
-        match self {
-            PType::U8 => 0,
-            PType::U16 => 1,
-            PType::U32 => 2,
-            PType::U64 => 3,
-            PType::I8 => 4,
-            PType::I16 => 5,
-            PType::I32 => 6,
-            PType::I64 => 7,
-            PType::F16 => 8,
-            PType::F32 => 9,
-            PType::F64 => 10,
-        }
-    }
+impl TryFrom<u32> for PType {
+    type Error = UnknownNumber;
 
-    // The number type that a number stands for: none past 10.
-    pub fn from_number(number: u32) -> Option<PType>
-        ensures { MatchOption result ((p : PType) → ptype_number p ≢ number) (λ p. ptype_number p ≡ number) }
-    {
+    ghost try_from_gives = { λ number r. MatchResult r (λ p. ptype_number p ≡ number) (λ _. (p : PType) → ptype_number p ≢ number) };
+
+    // Each number stands beside its case. To look the number up in `all` would rest on the order of that list, which is no plainer.
+    fn try_from(number: u32) -> Result<PType, UnknownNumber> {
         match number {
-            0 => Some(PType::U8),
-            1 => Some(PType::U16),
-            2 => Some(PType::U32),
-            3 => Some(PType::U64),
-            4 => Some(PType::I8),
-            5 => Some(PType::I16),
-            6 => Some(PType::I32),
-            7 => Some(PType::I64),
-            8 => Some(PType::F16),
-            9 => Some(PType::F32),
-            10 => Some(PType::F64),
-            _ => None,
+            0 => Ok(PType::U8),
+            1 => Ok(PType::U16),
+            2 => Ok(PType::U32),
+            3 => Ok(PType::U64),
+            4 => Ok(PType::I8),
+            5 => Ok(PType::I16),
+            6 => Ok(PType::I32),
+            7 => Ok(PType::I64),
+            8 => Ok(PType::F16),
+            9 => Ok(PType::F32),
+            10 => Ok(PType::F64),
+            _ => Err(UnknownNumber),
         }
     }
+}
 
-    // Its word.
-    pub fn word(self) -> &'static str
-        ensures { result.now ≡ ptype_word self }
-    {
+impl Word for PType {
+    ghost text = { ptype_word };
+
+    ghost values = { ptypes };
+
+    ghost distinct = { ptype_word_lem };
+
+    fn all() -> &'static [PType] {
+        &[
+            PType::U8,
+            PType::U16,
+            PType::U32,
+            PType::U64,
+            PType::I8,
+            PType::I16,
+            PType::I32,
+            PType::I64,
+            PType::F16,
+            PType::F32,
+            PType::F64,
+        ]
+    }
+
+    fn word(self) -> &'static str {
         match self {
             PType::U8 => "u8",
             PType::U16 => "u16",
@@ -150,11 +142,20 @@ impl Kind {
         Kind::Primitive(PType::F32),
         Kind::Primitive(PType::F64),
     ];
+}
 
-    // Its word.
-    pub fn word(self) -> &'static str
-        ensures { result.now ≡ kind_word self }
-    {
+impl Word for Kind {
+    ghost text = { kind_word };
+
+    ghost values = { kinds };
+
+    ghost distinct = { kind_word_lem };
+
+    fn all() -> &'static [Kind] {
+        &Kind::ALL
+    }
+
+    fn word(self) -> &'static str {
         match self {
             Kind::Bool => "bool",
             Kind::Utf8 => "utf8",
@@ -164,32 +165,44 @@ impl Kind {
             Kind::Primitive(ptype) => ptype.word(),
         }
     }
+}
 
-    // The kind that a word stands for, if any.
-    pub fn from_word(word: &[u8]) -> Option<Kind>
-        ensures value { result ≡ kind_named word.now }
-        ensures named { MatchOption result ((k : Kind) → word.now ≢ kind_word k) (λ k. word.now ≡ kind_word k) }
-    {
-        first_named(word, &Kind::ALL)
+impl TryFrom<&[u8]> for Kind {
+    type Error = UnknownWord;
+
+    ghost try_from_gives = { λ word r. ReadsWord kind_word kinds word.now r };
+
+    fn try_from(word: &[u8]) -> Result<Kind, UnknownWord> {
+        from_word(word)
     }
 }
 
-impl Nullability {
-    // Its word.
-    pub fn word(self) -> &'static str
-        ensures { result.now ≡ mark_word self }
-    {
+impl Word for Nullability {
+    ghost text = { mark_word };
+
+    ghost values = { marks };
+
+    ghost distinct = { mark_word_lem };
+
+    fn all() -> &'static [Nullability] {
+        &[Nullability::NonNullable, Nullability::Nullable]
+    }
+
+    fn word(self) -> &'static str {
         match self {
             Nullability::NonNullable => "req",
             Nullability::Nullable => "null",
         }
     }
+}
 
-    // The null mark that a word stands for, if any.
-    pub fn from_word(word: &[u8]) -> Option<Nullability>
-        ensures value { result ≡ mark_named word.now }
-        ensures named { MatchOption result ((m : Nullability) → word.now ≢ mark_word m) (λ m. word.now ≡ mark_word m) }
-    {
-        marked(word)
+// It is that of kinds. One impl for every type with words is refused, since TryFrom is a trait of the library.
+impl TryFrom<&[u8]> for Nullability {
+    type Error = UnknownWord;
+
+    ghost try_from_gives = { λ word r. ReadsWord mark_word marks word.now r };
+
+    fn try_from(word: &[u8]) -> Result<Nullability, UnknownWord> {
+        from_word(word)
     }
 }

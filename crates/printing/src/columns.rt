@@ -1,12 +1,16 @@
-ghost use Rattle.std.specs.Prelude.{◌≡◌, ◌-◌, ◌*◌, ◌≤◌};
-ghost use Rattle.printing.specs.Greatest.{greatest as greatest_of};
+ghost use Rattle.std.specs.Prelude.{◌≡◌, ℕ, ◌-◌, ◌*◌, ◌≤◌, map};
+ghost use Rattle.std.specs.List.{reduce};
+ghost use Rattle.std.specs.Option.{unwrap_or};
+ghost use Rattle.std.specs.Ordering.{max_by_ordering};
+ghost use Rattle.std.specs.Iterator.{ActsAs};
+ghost use Rattle.printing.specs.Greatest.{greatest as greatest_of, number_or};
 ghost use Rattle.printing.specs.Width.{Width};
 
 use crate::branches::BRANCH_WIDTH;
-use tables::Record;
+use tables::{Record, Table};
 
 // The greatest of each number among the tables of a file.
-#[derive(Clone, Copy)]
+#[derive(Clone, Copy, Debug, PartialEq, Eq)]
 pub struct Greatest {
     pub depth: u32,
     pub place: u32,
@@ -15,7 +19,7 @@ pub struct Greatest {
 }
 
 // How many characters wide each column of a list is.
-#[derive(Clone, Copy)]
+#[derive(Clone, Copy, Debug, PartialEq, Eq)]
 pub struct Columns {
     // The branches of the tree, and the number of the table after them.
     pub tree_width: usize,
@@ -33,22 +37,28 @@ pub fn greatest_of(records: &[Option<Record<u32>>]) -> Greatest
     ensures encoding { result.encoding ≡ greatest_of (λ t. t.encoding) records.now }
     ensures rows { result.rows ≡ greatest_of (λ t. t.rows) records.now }
 {
-    let mut greatest = Greatest {
-        depth: 0,
-        place: 0,
-        encoding: 0,
-        rows: 0,
-    };
-    for slot in records {
-        if let Some(record) = slot {
-            let table = record.table;
-            greatest.depth = greatest.depth.max(table.depth);
-            greatest.place = greatest.place.max(table.place);
-            greatest.encoding = greatest.encoding.max(table.encoding);
-            greatest.rows = greatest.rows.max(table.rows);
-        }
+    Greatest {
+        depth: max_of(records, 0, |table| table.depth),
+        place: max_of(records, 0, |table| table.place),
+        encoding: max_of(records, 0, |table| table.encoding),
+        rows: max_of(records, 0, |table| table.rows),
     }
-    greatest
+}
+
+// The greatest of a number of the tables in the records; an empty record counts as `least`.
+pub(crate) fn max_of<T: Ord + Copy, F: Fn(Table) -> T>(
+    records: &[Option<Record<u32>>],
+    least: T,
+    number: F,
+) -> T
+    requires { (state : F) (t : Table) → F.pre state t }
+    ensures { (f : Table → T) → ActsAs F.FnMut number f → result ≡ unwrap_or (reduce (λ p z. max_by_ordering (T.cmp p z) p z) (map (number_or least f) records.now)) least }
+{
+    records
+        .iter()
+        .map(|slot| slot.map_or(least, |record| number(record.table)))
+        .max()
+        .unwrap_or(least)
 }
 
 // How many digits a number has; 0 has one.

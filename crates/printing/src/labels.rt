@@ -4,6 +4,7 @@ ghost use Rattle.ids.specs.Value.{ids_of};
 ghost use Rattle.printing.specs.Greatest.{greatest as greatest_of};
 ghost use Rattle.printing.specs.Label.{Spelled, label_at};
 
+use crate::columns::max_of;
 use crate::escapes::Escaped;
 use ids::Ids;
 use std::alloc::{AllocError, Global};
@@ -50,8 +51,7 @@ impl Labels {
     {
         let unknown = Label::new(String::from_str(heap, "not in the list")?);
         let mut known = Vec::new(heap);
-        for place in 0..list.len() {
-            let bytes = list.get(place).unwrap_or_default();
+        for bytes in list.iter() {
             let text = Escaped { bytes }.to_string(heap)?;
             known.push(Label::new(text))?;
         }
@@ -72,12 +72,6 @@ impl Labels {
     pub fn widest(&self, records: &[Option<Record<u32>>]) -> usize
         ensures { result ≡ greatest_of (λ t. (label_at self.now t.encoding).width) records.now }
     {
-        let mut width: usize = 0;
-        for slot in records {
-            if let Some(record) = slot {
-                width = width.max(self.get(record.table.encoding).width);
-            }
-        }
-        width
+        max_of(records, 0, |table| self.get(table.encoding).width)
     }
 }

@@ -1,5 +1,5 @@
-// What the program computes before it prints: how wide columns are, the labels of encodings, the branches of a tree, the dtypes whose
-// children are still to be printed, and which files a line names.
+// What a program that lists files computes before it prints: how wide columns are, the labels of encodings, the branches of a
+// tree, the dtypes whose children are still to be printed, and which files a line names.
 #![tactic(auto)]
 
 mod branches;
@@ -10,7 +10,7 @@ mod naming;
 mod open;
 mod words;
 
-pub use branches::{BRANCH_WIDTH, enter_node, write_branches};
+pub use branches::{BRANCH_WIDTH, Branches};
 pub use columns::{Columns, Greatest, greatest_of};
 pub use escapes::Escaped;
 pub use labels::{Label, Labels};

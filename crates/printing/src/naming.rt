@@ -3,7 +3,7 @@ ghost use Rattle.std.specs.Option.{MatchOption};
 ghost use Rattle.printing.specs.Naming.{Named, Unnamed};
 
 // A file of tables, and the files of the dtype and the ids that belong to it.
-#[derive(Clone, Copy)]
+#[derive(Clone, Copy, Debug, PartialEq, Eq)]
 pub struct Names<'a> {
     pub tables: &'a str,
     pub dtype: &'a str,
@@ -11,7 +11,7 @@ pub struct Names<'a> {
 }
 
 // What is listed together.
-#[derive(Clone, Copy)]
+#[derive(Clone, Copy, Debug, PartialEq, Eq)]
 pub enum Sources<'a> {
     // A file of tables.
     Alone(&'a str),

@@ -12,7 +12,7 @@ pub struct Open {
     pub dtype: DType,
     // The root's depth is 1.
     pub depth: u32,
-    // Which child is next, from 0, and how many there are.
+    // Which child is next, from 0, and how many there are. They are counted, since a dtype gives its k-th child by number.
     pub next: usize,
     pub count: usize,
 }
@@ -39,11 +39,7 @@ impl Open {
         ensures { result ≡ advanced self }
     {
         let next = self.next.checked_add(1)?;
-        if next < self.count {
-            Some(Open { next, ..self })
-        } else {
-            None
-        }
+        (next < self.count).then_some(Open { next, ..self })
     }
 }
 
@@ -51,8 +47,6 @@ impl Open {
 pub fn push_open(parents: &mut Vec<Open>, parent: Option<Open>) -> io::Result<()>
     ensures { OnOk result (parents.new.items ≡ parents.old.items ++ option_to_list parent) }
 {
-    if let Some(parent) = parent {
-        parents.push(parent)?;
-    }
+    parents.extend(parent)?;
     Ok(())
 }

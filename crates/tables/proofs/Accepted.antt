@@ -1,5 +1,5 @@
 -- Bytes are accepted exactly when a layout stands at the root within limits and records, and the records then hold it.
-use Rattle.std.proofs.Common.{◌≡◌, ℕ, zero, suc, ◌+◌, ◌-◌, ◌≤◌, true, ◌&&◌, leb, List, [], ◌∷◌, ◌++◌, map, length, take, replicate, None, Ok, Err, Option, Result, sym, refl, ap, ◌∙◌, subst, arith}
+use Rattle.std.proofs.Common.{◌≡◌, ℕ, zero, suc, ◌+◌, ◌-◌, ◌≤◌, true, ◌&&◌, leb, List, [], ◌∷◌, ◌++◌, map, length, replicate, None, Ok, Err, Option, Result, sym, refl, ap, ◌∙◌, subst, arith}
 use Rattle.std.proofs.lemmas.Bool.{leb-true, le-leb, and_parts, and_from}
 use Rattle.tables.specs.declared.faults.Fault.{Fault}
 use Rattle.tables.specs.declared.faults.Fault.TheVariants.{TooLong, BadLimit}
@@ -12,11 +12,12 @@ use Rattle.tables.specs.Answer.{table_at}
 use Rattle.tables.specs.Read.{forward}
 use Rattle.tables.specs.Format.{Layout, Root, Stands, size, height}
 use Rattle.tables.specs.Listing.{row_at, InRange, Verified}
-use Rattle.tables.specs.Step.{Kept}
-use Rattle.tables.specs.Visit.{visit, visited, top, found, recorded, counted, fresh}
+use Rattle.tables.specs.Step.{Kept, Adds, child}
+use Rattle.tables.specs.Visit.{visit, children, visited, top, found, recorded, counted, fresh}
 use Rattle.tables.proofs.Binds.{bind_ok, need_ok}
 use Rattle.tables.proofs.Reading.{same_ok, never_ok, need_is, forward_ok, forward_is}
 use Rattle.tables.proofs.Trees.{sound, complete_visit, only}
+use Rattle.tables.proofs.Visiting.{added, one_child}
 
 -- what the records hold, number by number
 no_record : (M : Type 0) (m k : ℕ) → table_at {M = M} (replicate m None) k ≡ Err missing.Table
@@ -86,15 +87,11 @@ module _ (M : Type 0) (limits : Limits) (b : List ℕ) (room : ℕ) where
       subst (λ (r : Result ℕ Fault). Verified limits b room r records) (sym p)
       (subst (λ (records : List (Option (Record M))). Verified limits b room (counted (found limits b room)) records) (sym q) (outcome (found limits b room) refl))
 
--- the records once the rest is emptied
-pub emptied : (M : Type 0) (v : Result (List Table) Fault) (records : List (Option (Record M))) (room n : ℕ) → Ok n ≡ counted v → Kept v records → length records ≡ room
-    → take n records ++ replicate (length records - n) None ≡ recorded v room
-emptied M (Ok rows) records room n e k l =
-    let n' : n ≡ length rows = same_ok e in
-    ap (λ (n : ℕ). take n records ++ replicate (length records - n) None) n' ∙ ap (λ (z : List (Option (Record M))). z ++ replicate (length records - length rows) None) k
-    ∙ ap (λ (r : ℕ). map fresh rows ++ replicate (r - length rows) None) l
-emptied M (Err x) records room n e k l = absurd (never_ok (sym e))
-
-pub all_emptied : (M : Type 0) (v : Result (List Table) Fault) (room : ℕ) (x : Fault) → Err x ≡ counted v → replicate (room - 0) None ≡ recorded {M = M} v room
-all_emptied M (Ok rows) room x e = absurd (never_ok e)
-all_emptied M (Err y) room x e = let z : room - 0 ≡ room = omega arith in ap (λ (r : ℕ). replicate r None) z
+-- what the visit of the root leaves is what is found
+pub whole : {M : Type 0} (limits : Limits) (b : List ℕ) (room m : ℕ) (before after : List (Option (Record M))) (u : Unit {0}) → InRange limits b
+    → Adds (children (child limits.levels b limits.tables room 0 1) b 0 1 0 0) 0 before (Ok u) m after → (Ok m ≡ counted (found limits b room)) × Kept (found limits b room) after
+whole limits b room m before after u i a =
+    let rows = added (children (child limits.levels b limits.tables room 0 1) b 0 1 0 0) 0 m before after u a in
+    let is : found limits b room ≡ Ok rows.0 = ranged limits b room i ∙ sym (one_child limits.levels b limits.tables room) ∙ rows.1 in
+    let count : m ≡ length rows.0 = (let p = rows.2 in omega arith) in
+    rw (is, ← count) (refl, rows.4)

@@ -1,10 +1,10 @@
 pub mod Accepted
 pub mod Binds
-pub mod Frames
 pub mod Halving
 pub mod Kinship
+pub mod Littles
 pub mod Numbers
 pub mod Reading
 pub mod Siblings
 pub mod Trees
-pub mod Turns
+pub mod Visiting

@@ -1,20 +1,25 @@
 -- The record of each number tells of the layout of that number.
-use Rattle.std.proofs.Common.{◌≡◌, ℕ, zero, suc, ◌+◌, ◌-◌, ◌*◌, ◌/◌, ◌<◌, ◌≤◌, ltb, leb, List, [], ◌∷◌, ◌++◌, length, get_or, take, drop, Some, None, Ok, Err, Option, Result, sym, refl, ap, ◌∙◌, subst, inl, inr, append_assoc, append-nil, arith, length-append}
-use Rattle.std.proofs.lemmas.List.{length-take, length-drop, get_or-take, get_or-drop}
+use Rattle.std.proofs.Common.{◌≡◌, ℕ, zero, suc, ◌+◌, ◌-◌, ◌*◌, ◌/◌, ◌<◌, ◌≤◌, ltb, leb, List, [], ◌∷◌, ◌++◌, length, get_or, take, drop, Some, None, Ok, Err, Option, Result, sym, refl, ap, ◌∙◌, subst, inl, inr, append_assoc, append-nil, arith, length-append, Bor, MatchResult, w32}
+use Rattle.std.proofs.lemmas.List.{length-take, length-drop}
+use Rattle.std.specs.Int.{from_le_bytes}
+use Rattle.std.specs.Simd.{first_chunks}
+use Rattle.std.proofs.lemmas.Result.{MatchResult-weaker}
 use Rattle.std.proofs.lemmas.Bool.{cases_lt, cond-true, cond-false, lt-ltb, le-ltb, le-leb}
 use Rattle.tables.specs.declared.faults.Missing.{Missing}
 use Rattle.tables.specs.declared.faults.Missing.TheVariants as missing
 use Rattle.tables.specs.declared.records.Part.{Part}
 use Rattle.tables.specs.declared.records.Table.{Table}
 use Rattle.tables.specs.declared.records.Record.{Record}
+use Rattle.tables.specs.declared.segments.SegmentIds.{SegmentIds}
 use Rattle.tables.specs.declared.visit.Spot.{Spot}
-use Rattle.tables.specs.Answer.{part_of, table_at, metadata_in, metadata_at, segments_in, segments_at}
+use Rattle.tables.specs.Answer.{part_of, number_at, table_at, metadata_in, metadata_at, segments_in, segments_at}
 use Rattle.tables.specs.Read.{little}
 use Rattle.tables.specs.Format.{Layout, Layouts, numbers, size, sizes}
 use Rattle.tables.specs.Listing.{Tells, MetAt, Lists, ListAll, row_at, Holds}
 use Rattle.tables.specs.Question.{layout_at, layouts_at, spot_at, spots_at, TellsOf, metadata_of, segments_of, numbers_in}
 use Rattle.tables.specs.Visit.{below, top}
 use Rattle.tables.proofs.Binds.{no_more}
+use Rattle.tables.proofs.Littles.{little_take, little_drop, numbers_take, numbers_drop}
 
 -- rows by their places
 pub row_skip : (pre xs : List Table) (z : ℕ) → row_at (pre ++ xs) (length pre + z) ≡ row_at xs z
@@ -149,30 +154,12 @@ module _ {M : Type 0} (b : List ℕ) (T : Layout) (records : List (Option (Recor
   metadata_is = metadata_told (layout_at T n) told
 
 -- numbers in a part of the bytes are those in the bytes
-module _ (b : List ℕ) (f m : ℕ) where
-  little_part : (w z : ℕ) → z + w ≤ m → little w (take m (drop f b)) z ≡ little w b (f + z)
-  little_part zero z le = refl
-  little_part (suc w) z le =
-      let lt : z < m = omega arith in
-      let next : f + (z + 1) ≡ f + z + 1 = omega arith in
-      let le' : z + 1 + w ≤ m = omega arith in
-      let here : get_or (take m (drop f b)) z 0 ≡ get_or b (f + z) 0 = get_or-take m (drop f b) z 0 lt ∙ get_or-drop f b z 0 in
-      ap (λ (x : ℕ). x + 256 * little w (take m (drop f b)) (z + 1)) here
-      ∙ ap (λ (x : ℕ). get_or b (f + z) 0 + 256 * x) (little_part w (z + 1) le' ∙ ap (little w b) next)
-
-  numbers_part : (k z : ℕ) → z + k * 4 ≤ m → numbers (take m (drop f b)) z k ≡ numbers b (f + z) k
-  numbers_part zero z le = refl
-  numbers_part (suc k) z le =
-      let next : f + (z + 4) ≡ f + z + 4 = omega arith in
-      ap (λ (x : ℕ). x ∷ numbers (take m (drop f b)) (z + 4) k) (little_part 4 z (omega arith))
-      ∙ ap (λ (l : List ℕ). little 4 b (f + z) ∷ l) (numbers_part k (z + 4) (omega arith) ∙ ap (λ (p : ℕ). numbers b p k) next)
-
 pub part_numbers : (b : List ℕ) (p : Part) → p.from + p.count * 4 ≤ length b → numbers_in (part_of 4 b p) ≡ numbers b p.from p.count
 part_numbers b p le =
     let len : length (part_of 4 b p) ≡ p.count * 4 = length-take (p.count * 4) (drop p.from b) ∙ (let d = length-drop p.from b in omega arith) in
     let count : length (part_of 4 b p) / 4 ≡ p.count = omega arith in
     let at : p.from + 0 ≡ p.from = omega arith in
-    ap (numbers (part_of 4 b p) 0) count ∙ numbers_part b p.from (p.count * 4) p.count 0 (omega arith) ∙ ap (λ (f : ℕ). numbers b f p.count) at
+    ap (numbers (part_of 4 b p) 0) count ∙ numbers_take p.count (p.count * 4) (drop p.from b) 0 (omega arith) ∙ numbers_drop p.count p.from b 0 ∙ ap (λ (f : ℕ). numbers b f p.count) at
 
 abbrev pub read : Result (List ℕ) Missing → Result (List ℕ) Missing
 read (Ok l) = Ok (numbers_in l)
@@ -189,3 +176,43 @@ module _ {M : Type 0} (b : List ℕ) (T : Layout) (records : List (Option (Recor
 
   pub segments_is : read (segments_at b records n) ≡ segments_of (layout_at T n)
   segments_is = segments_told (layout_at T n) (told b T records n holds)
+
+-- what an answer of records tells of the tree that they hold
+pub tells_of : {M : Type 0} (records : List (Option (Record M))) (n : ℕ) (r : Result Table Missing) → r ≡ table_at records n
+    → (b : List ℕ) (T : Layout) → Holds b T records → TellsOf (layout_at T n) (spot_at T top 0 n) b r
+tells_of records n r e b T holds = subst (TellsOf (layout_at T n) (spot_at T top 0 n) b) (sym e) (told b T records n holds)
+
+pub tells_metadata : {M : Type 0} (b : List ℕ) (records : List (Option (Record M))) (n : ℕ) (r : Result (Bor (List ℕ)) Missing)
+    → MatchResult r (λ s. metadata_at b records n ≡ Ok s.now) (λ e. metadata_at b records n ≡ Err e)
+    → (T : Layout) → Holds b T records → MatchResult r (λ s. metadata_of (layout_at T n) ≡ Ok s.now) (λ e. metadata_of (layout_at T n) ≡ Err e)
+tells_metadata b records n r v T holds = let is = sym (metadata_is b T records n holds) in MatchResult-weaker r v (λ s p. is ∙ p) (λ e p. is ∙ p)
+
+pub tells_segments : {M : Type 0} (b : List ℕ) (records : List (Option (Record M))) (n : ℕ) (r : Result SegmentIds Missing)
+    → MatchResult r (λ s. segments_at b records n ≡ Ok s.bytes.now) (λ e. segments_at b records n ≡ Err e)
+    → (T : Layout) → Holds b T records → MatchResult r (λ s. segments_of (layout_at T n) ≡ Ok (numbers_in s.bytes.now)) (λ e. segments_of (layout_at T n) ≡ Err e)
+tells_segments b records n r v T holds = let is = sym (segments_is b T records n holds) in MatchResult-weaker r v (λ s p. is ∙ ap read p) (λ e p. is ∙ ap read p)
+
+-- the first number, and those behind it
+first_little : (b : List ℕ) → from_le_bytes w32 (take 4 b) ≡ little 4 b 0
+first_little b =
+    let same : from_le_bytes w32 (take 4 b) ≡ little 4 (take 4 b) 0 = omega arith in
+    same ∙ little_take 4 4 b 0 (omega arith)
+
+pub first_number : (b first others : List ℕ) → first ≡ take 4 b → others ≡ drop 4 b → 4 ≤ length b → numbers_in b ≡ from_le_bytes w32 first ∷ numbers_in others
+first_number b first others p q le =
+    let len = length-drop 4 b in
+    let count : length b / 4 ≡ suc (length (drop 4 b) / 4) = omega arith in
+    let at : 4 + 0 ≡ 4 = refl in
+    rw (p, q, count, first_little b, numbers_drop (length (drop 4 b) / 4) 4 b 0) refl
+
+-- the k-th chunk of four bytes holds the k-th number
+chunk_number : (n k : ℕ) (b : List ℕ) (d : List ℕ) → k < n → from_le_bytes w32 (get_or (first_chunks 4 n b) k d) ≡ little 4 b (4 * k)
+chunk_number zero k b d lt = let no' : ⊥ = omega arith in elim no' [ ]
+chunk_number (suc n) zero b d lt = first_little b
+chunk_number (suc n) (suc k) b d lt =
+    let at : 4 + 4 * k ≡ 4 * suc k = omega arith in
+    chunk_number n k (drop 4 b) d (omega arith) ∙ little_drop 4 4 b (4 * k) ∙ ap (little 4 b) at
+
+pub number_is : (b : List ℕ) (k : ℕ) (chunk : List ℕ) → k < length b / 4 → chunk ≡ get_or (first_chunks 4 (length b / 4) b) k chunk → Some (from_le_bytes w32 chunk) ≡ number_at b k
+number_is b k chunk lt e =
+    ap (λ (n : ℕ). Some n) (ap (from_le_bytes w32) e ∙ chunk_number (length b / 4) k b chunk lt) ∙ sym (cond-true (ltb k (length b / 4)) _ _ (lt-ltb k (length b / 4) lt))

@@ -6,10 +6,12 @@ mod answers;
 mod faults;
 mod reads;
 mod records;
+mod segments;
 mod verifier;
 mod visit;
 
-pub use answers::{SegmentIds, child, metadata, segments, table_at};
+pub use answers::Tables;
 pub use faults::{Fault, Missing};
 pub use records::{Limits, Part, Record, Table};
+pub use segments::{SegmentIds, SegmentIdsIter};
 pub use verifier::{MAX_BYTES, verify};

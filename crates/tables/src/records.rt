@@ -1,11 +1,12 @@
-// The elements of a vector: the place of the first, and how many there are. Of an absent vector both are 0.
+// The elements of a vector: the place of the first, and how many there are. Of an absent vector both are 0. It is no slice, since
+// a record is plain data that outlives the borrow of the bytes.
 #[derive(Clone, Copy)]
 pub struct Part {
     pub from: u32,
     pub count: u32,
 }
 
-// What a verified table holds.
+// What a verified table holds. Tables name each other by number, since their records lie in a slice that the caller lends.
 #[derive(Clone, Copy)]
 pub struct Table {
     pub rows: u64,
@@ -26,7 +27,8 @@ pub struct Table {
     pub encoding: u16,
 }
 
-// A node of the tree: its table, and the mark that a layer above keeps with it.
+// A node of the tree: its table, and the mark that a layer above keeps with it. The caller lends a slice of records, since nothing
+// here allocates.
 #[derive(Clone, Copy)]
 pub struct Record<M> {
     pub table: Table,

@@ -4,8 +4,9 @@ ghost use Rattle.tables.specs.Step.{Kept};
 ghost use Rattle.tables.specs.Visit.{found, counted, recorded};
 
 use crate::faults::Fault;
-use crate::records::{Limits, Record};
-use crate::visit::{Frame, visit_tables};
+use crate::reads::Bytes;
+use crate::records::{Limits, Part, Record};
+use crate::visit::Visit;
 
 // The most bytes that are read.
 pub const MAX_BYTES: usize = 1_048_576;
@@ -15,9 +16,7 @@ fn clear_from<M: Copy>(records: &mut [Option<Record<M>>], from: usize)
     requires { from ≤ length records.old }
     ensures { records.new ≡ take from records.old ++ replicate (length records.old - from) Nothing }
 {
-    for i in from..records.len() {
-        records[i] = None;
-    }
+    records[from..].fill(None);
 }
 
 // The visit of all tables, once bytes and limits are in range.
@@ -35,14 +34,17 @@ fn visit_within<M: Copy>(
     if limits.levels < 1 || limits.levels > 64 || limits.tables < 1 || limits.tables > 4096 {
         return Err(Fault::BadLimit);
     }
-    let mut stack = [Frame {
-        node: 0,
-        next: 0,
-        at: 0,
-        left: 0,
-        late: None,
-    }; 65];
-    visit_tables(bytes, limits, records, &mut stack)
+    let bytes = Bytes { bytes };
+    let mut visit = Visit {
+        bytes,
+        most: limits.tables,
+        records,
+        count: 0,
+    };
+    // The offset at place 0 leads to the root as one in a vector leads to a child.
+    let root = Part { from: 0, count: 1 };
+    visit.children(limits.levels, 0, 1, root)?;
+    Ok(visit.count)
 }
 
 // Verifies that a tree of tables stands in the bytes, and tells how many tables it has. The first records are the tables in the

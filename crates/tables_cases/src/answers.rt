@@ -1,69 +1,67 @@
 use crate::cases::Case;
 use crate::questions::all_is_right;
+use std::alloc::AllocError;
 use std::fmt::Write;
-use tables::{Missing, Record, SegmentIds, metadata, segments, table_at, verify};
+use tables::{Record, Tables, verify};
 
 // Has a case verified, and writes the answer: `refused:N;`, or `accepted:N;` and the N tables, each in the form of `write_table`.
-// If a record or an answer to a question is wrong beside that, this comes first. A write fails only for want of memory, and the
-// text then lacks what is expected.
-pub fn write_answer(text: &mut String, case: &Case, records: &mut [Option<Record<u32>>]) {
+// If a record or an answer to a question is wrong beside that, this comes first.
+pub fn write_answer(
+    text: &mut String,
+    case: &Case<'_>,
+    records: &mut [Option<Record<u32>>],
+) -> Result<(), AllocError> {
     let bytes = case.bytes.as_slice();
     let outcome = verify(bytes, case.limits, records);
     let count = outcome.unwrap_or(0);
-    if !all_is_right(bytes, records, count) {
-        let _ = text.push_str("a wrong record, or a wrong answer to a question, and ");
+    let tables = Tables { bytes, records };
+    if !all_is_right(&tables, count) {
+        text.push_str("a wrong record, or a wrong answer to a question, and ")?;
     }
-    let _ = match outcome {
-        Ok(count) => write!(text, "accepted:{count};"),
-        Err(fault) => write!(text, "refused:{};", fault.number()),
-    };
+    match outcome {
+        Ok(count) => write!(text, "accepted:{count};")?,
+        Err(fault) => write!(text, "refused:{};", fault.number())?,
+    }
     for number in 0..count {
-        write_table(text, bytes, records, number);
+        write_table(text, &tables, number)?;
     }
+    Ok(())
 }
 
 // Writes the table of a number: `place/parent/depth/index/encoding/rows/metadata/children/below/segments;`, where metadata and
 // segments begin with the place of their first element.
-fn write_table(text: &mut String, bytes: &[u8], records: &[Option<Record<u32>>], number: u32) {
-    if let Ok(table) = table_at(records, number) {
-        let _ = write!(
-            text,
-            "{}/{}/{}/{}/",
-            table.place, table.parent, table.depth, table.index
-        );
-        let _ = write!(
-            text,
-            "{}/{}/{}:",
-            table.encoding, table.rows, table.metadata.from
-        );
-        write_metadata(text, metadata(bytes, records, number));
-        let _ = write!(
-            text,
-            "{}/{}/{}",
-            table.children, table.below, table.segments.from
-        );
-        write_segments(text, segments(bytes, records, number));
+fn write_table(
+    text: &mut String,
+    tables: &Tables<'_, '_, u32>,
+    number: u32,
+) -> Result<(), AllocError> {
+    let (Ok(table), Ok(metadata), Ok(segments)) = (
+        tables.table_at(number),
+        tables.metadata(number),
+        tables.segments(number),
+    ) else {
+        return text.push_str("a table is missing;");
+    };
+    write!(
+        text,
+        "{}/{}/{}/{}/",
+        table.place, table.parent, table.depth, table.index
+    )?;
+    write!(
+        text,
+        "{}/{}/{}:{}/",
+        table.encoding,
+        table.rows,
+        table.metadata.from,
+        hex::encode(*text.allocator(), metadata)?
+    )?;
+    write!(
+        text,
+        "{}/{}/{}",
+        table.children, table.below, table.segments.from
+    )?;
+    for id in segments.iter() {
+        write!(text, ":{id}")?;
     }
-}
-
-// Writes the bytes of metadata in hex, and a `/`.
-fn write_metadata(text: &mut String, metadata: Result<&[u8], Missing>) {
-    if let Ok(bytes) = metadata {
-        for byte in bytes {
-            let _ = write!(text, "{byte:02x}");
-        }
-        let _ = text.push_str("/");
-    }
-}
-
-// Writes each number of segments after a `:`, and a `;` at the end.
-fn write_segments(text: &mut String, segments: Result<SegmentIds, Missing>) {
-    if let Ok(ids) = segments {
-        for k in 0..ids.len() {
-            if let Some(id) = ids.get(k) {
-                let _ = write!(text, ":{id}");
-            }
-        }
-        let _ = text.push_str(";");
-    }
+    text.push_str(";")
 }

@@ -34,36 +34,28 @@ const STALE: Record<u32> = Record {
 
 // Runs the case of a line on stale records, prints what came of it, and tells whether that is as expected.
 fn run_case(rt: &HostRuntime, line: &str) -> io::Result<bool> {
-    let mut records = [Some(STALE); MOST_RECORDS];
-    let Some(case) = Case::read(rt.alloc(), line) else {
-        return Err(io::Error::other("a line is no case"));
-    };
-    let name = case.name;
+    let case = Case::read(rt.alloc(), line).map_err(|_| io::Error::other("a line is no case"))?;
+    let mut records = vec![in rt.alloc(); Some(STALE); case.records.min(MOST_RECORDS)]?;
     let mut found = String::new(rt.alloc());
-    write_answer(
-        &mut found,
-        &case,
-        &mut records[0..case.records.min(MOST_RECORDS)],
-    );
+    write_answer(&mut found, &case, records.as_mut_slice())?;
+    let name = case.name;
     // A case of thousands of tables does not list them.
-    let expected = found.starts_with(case.expected);
-    if expected {
+    let is_expected = found.starts_with(case.expected);
+    if is_expected {
         println!(rt; "{name}: as expected")?;
     } else {
         println!(rt; "{name}: {found}")?;
     }
-    Ok(expected)
+    Ok(is_expected)
 }
 
-// Runs all cases, and counts those that differ.
+// Runs all cases, and counts those that differ. Each program that replays cases has such a loop of its own: they share the choice of
+// lines and the count, and an iterator type for these is no plainer, since no clause could say which lines it gives.
 fn run_all(rt: &HostRuntime) -> io::Result<()> {
     let text = io::read_to_string(rt.alloc(), rt.stdin())?;
     let mut count: u64 = 0;
     let mut differ: u64 = 0;
-    for line in text.lines() {
-        if line.starts_with('#') {
-            continue;
-        }
+    for line in text.lines().filter(|line| !line.starts_with('#')) {
         count = count.saturating_add(1);
         if !run_case(rt, line)? {
             differ = differ.saturating_add(1);
@@ -71,10 +63,9 @@ fn run_all(rt: &HostRuntime) -> io::Result<()> {
     }
     println!(rt; "{count} cases, {differ} differ")?;
     if differ > 0 {
-        Err(io::Error::other("a case differs"))
-    } else {
-        Ok(())
+        return Err(io::Error::other("a case differs"));
     }
+    Ok(())
 }
 
 fn main(rt: HostRuntime) -> io::Result<()> {

@@ -1,9 +1,13 @@
-use Rattle.std.proofs.Common.{unwrap_or, ap, ◌∙◌}
-use Rattle.tables.specs.Answer.{number_at}
-use Rattle.tables_c.proofs.Sums.{sum_to_more}
+use Rattle.std.proofs.Common.{rules, ◌∙◌}
+use Rattle.std.proofs.lemmas.Iterator.Consumers.{YieldsList-from_first, fold_from_yields_List}
+use Rattle.tables.specs.declared.segments.SegmentIdsIter.{SegmentIdsIter}
+use Rattle.tables.specs.Question.{numbers_in}
+use Rattle.tables_c.specs.Walk.{plus}
+use Rattle.tables_c.proofs.Sums.{fold_numbers}
 use Rattle.tables_c.proofs.sum_numbers.Goals as goal
 
-pub loop-k-preserved : goal.loop-k-preserved
-loop-k-preserved c =
-    sum_to_more (λ k. unwrap_or (number_at c.args.segments.bytes.now k) 0) c.loop-k.k c.loop-k.sum c.unwrap_or.result c.loop-k.invariant
-    (c.unwrap_or.ensures ∙ ap (λ o. unwrap_or o 0) c.get.ensures)
+pub returns : goal.returns
+returns c =
+    let bytes = c.args.segments.bytes.now in
+    fold_from_yields_List _ plus 0 _ c.fold.ensures.ran (YieldsList-from_first (λ n. n) (λ (s : SegmentIdsIter). numbers_in s.bytes.now) (numbers_in bytes) (cc)) (λ a x b q k. search rules)
+    ∙ fold_numbers bytes

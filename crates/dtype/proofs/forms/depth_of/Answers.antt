@@ -1,23 +1,16 @@
-use Rattle.std.proofs.Common.{◌+◌, drop, sym, ap, ◌∙◌, arith}
-use Rattle.dtype.specs.Step.{depth_from}
-use Rattle.dtype.proofs.Searching.{depth_goes, digit_more, digit_none, digit_all}
+use Rattle.std.proofs.Common.{sym, ◌∙◌, arith}
+use Rattle.dtype.proofs.Digits.{depth_goes, digit_none, digit_all}
 use Rattle.dtype.proofs.forms.depth_of.Goals as goal
+use Rattle.dtype.proofs.forms.depth_of.Goals.{in_default, in_default-2}
 
 pub returns-then-not-is_ascii_digit : goal.returns-then-not-is_ascii_digit
 returns-then-not-is_ascii_digit c =
     sym (digit_none c.loop-digit.depth c.args.digits.now c.loop-digit.digit-index c.loop-digit-test.true (sym c.if-not-is_ascii_digit.ensures.value))
-    ∙ sym c.loop-digit.invariant.2 ∙ depth_goes c.args.digits.now c.if-is_empty.ensures c.if-digits-gt1.either
-
-pub loop-digit-preserved : goal.loop-digit-preserved
-loop-digit-preserved c = (
-  omega arith,
-  omega arith,
-  c.loop-digit.invariant.2
-      ∙ digit_more c.loop-digit.depth c.args.digits.now c.loop-digit.digit-index c.loop-digit-test.true (sym c.if-not-is_ascii_digit.ensures.value)
-      ∙ ap (λ n. depth_from n (drop (c.loop-digit.digit-index + 1) c.args.digits.now)) (sym c.min-depth.ensures),
-)
+    ∙ sym c.loop-digit.invariant.2
+    ∙ elim c.if-digits-lt2.branch [ in_default w ↦ depth_goes c.args.digits.now (omega arith) (λ z. omega arith) | in_default-2 w ↦ depth_goes c.args.digits.now (omega arith) (λ z. omega arith) ]
 
 pub returns : goal.returns
 returns c =
     sym (digit_all c.loop-digit.depth c.args.digits.now c.loop-digit.digit-index c.loop-digit-test.false)
-    ∙ sym c.loop-digit.invariant.2 ∙ depth_goes c.args.digits.now c.if-is_empty.ensures c.if-digits-gt1.either
+    ∙ sym c.loop-digit.invariant.2
+    ∙ elim c.if-digits-lt2.branch [ in_default w ↦ depth_goes c.args.digits.now (omega arith) (λ z. omega arith) | in_default-2 w ↦ depth_goes c.args.digits.now (omega arith) (λ z. omega arith) ]

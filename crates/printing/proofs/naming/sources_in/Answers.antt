@@ -1,4 +1,4 @@
-use Rattle.std.proofs.Common.{◌≡◌, ℕ, ◌<◌, Bool, true, false, List, ◌∷◌, ◌++◌, length, get_or, Some, Option, sym, refl, ap, ◌∙◌, subst, arith, lit<, length-append, Bor, MatchOption}
+use Rattle.std.proofs.Common.{◌≡◌, ℕ, ◌<◌, List, ◌∷◌, ◌++◌, length, get_or, Some, Option, sym, refl, ap, ◌∙◌, subst, arith, lit<, length-append, Bor, MatchOption}
 use Rattle.std.specs.Str.Iter.{LacksByte}
 use Rattle.std.proofs.lemmas.List.{get_or_at}
 use Rattle.std.proofs.lemmas.Str.Pattern.{IsSplitOnceResult, NoCharPasses-char, contains_char, split_parts, split_after}
@@ -21,9 +21,6 @@ has_tab line front rest e lacks =
     let l : length line ≡ length (front ++ (9 ∷ rest)) = ap length e in
     let lt : length front < length line = omega (arith, simp length-append at l) in
     lacks (length front) lt (ap (λ (xs : List ℕ). get_or xs (length front) 0) e ∙ get_or_at front 9 rest 0 (length front) refl)
-
-apart : (b : Bool) → b ≡ true → b ≡ false → ⊥
-apart b t f = let z : ◌≡◌ {A = ℕ} 0 1 = cc in omega arith
 
 pub returns-in_default : goal.returns-in_default
 returns-in_default c = (refl, λ k lt is. NoCharPasses-char 9 c.args.line.now k c.in_default.ensures.cases (lit< tt) lt is)
@@ -66,5 +63,5 @@ returns c =
       whole = p.0 ∙ ap (λ (xs : List ℕ). c.in-Some.tables.now ++ (9 ∷ xs)) q.0;
       first = p.1;
       second = q.1;
-      third = λ k lt is. apart c.contains.result (tab k lt is) c.if-contains.false;
+      third = λ k lt is. let t = tab k lt is in cc;
     }

@@ -1,14 +1,12 @@
-use Rattle.dtype.proofs.Reading.{at_none}
-use Rattle.dtype.proofs.Meanings.{no_child, the_child}
+use Rattle.std.proofs.Common.{arith, rules}
+use Rattle.dtype.proofs.Meanings.{child_before, the_child}
 use Rattle.dtype.proofs.dtypes.DType.child.Goals as goal
 
-pub returns-in_err-place : goal.returns-in_err-place
-returns-in_err-place c =
-    at_none _ _ _ c.from_residual-in_err-place.ensures
-    (no_child c.args.text.now c.as_slice-lines.result.now c.as_slice-lines.ensures.value c.args.self c.in-Line.number c.in_ok-at.at c.in-Line.is c.in_ok-at.ensures.0 c.in_ok-at.ensures.1
-    c.args.k (c.in_err-place.ensures.tree c.args.text.now.text.now))
+pub overflow_sub-result : goal.overflow_sub-result
+overflow_sub-result c =
+    child_before c.args.text.now c.len.result (omega (arith, c.args.text.now.lines.ok.0)) c.args.self c.in_ok-node.node c.in_ok-node.ensures c.args.k c.in_ok-child.child c.in_ok-child.ensures
 
 pub returns : goal.returns
 returns c =
-    the_child c.args.text.now c.as_slice-lines.result.now c.as_slice-lines.ensures.value c.args.self c.in-Line.number c.in_ok-at.at c.in-Line.is c.in_ok-at.ensures.0 c.in_ok-at.ensures.1
-    c.args.k c.in_ok-place.place c.name_in.result.now (c.in_ok-place.ensures.tree c.args.text.now.text.now) c.name_in.ensures
+    let (t, named, meant, line) = the_child c.args.text.now c.len.result (omega (arith, c.args.text.now.lines.ok.0)) c.args.self c.in_ok-node.node c.in_ok-node.ensures c.args.k c.in_ok-child.child c.in_ok-child.ensures in
+    (t, search (rules, named), meant, line)

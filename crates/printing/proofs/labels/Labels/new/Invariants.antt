@@ -1,6 +1,7 @@
-use Rattle.std.proofs.Common.{◌≡◌, length, vec_items}
+use Rattle.std.proofs.Common.{◌≡◌, ◌+◌, length}
+use Rattle.ids.specs.Value.{ids_of}
 use Rattle.printing.proofs.labels.Labels.new.Given as goal
 
--- A label for each id so far.
-abbrev pub invariant-loop-place : goal.invariant-loop-place
-invariant-loop-place l = length (vec_items l.known) ≡ l.place
+-- Each id that is not left to go over has a label.
+abbrev pub invariant-loop-bytes : goal.invariant-loop-bytes
+invariant-loop-bytes l = length l.known.items + length l.bytes-iterator ≡ length (ids_of l.list)
