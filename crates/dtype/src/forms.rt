@@ -13,8 +13,8 @@ const TAB: u8 = 0x09;
 // The byte that ends a line.
 pub(crate) const NEWLINE: u8 = 0x0A;
 
-// The depth that stands for every depth past 15. It is a number like the others and no case of its own, since depths are only
-// compared, and it compares with each depth up to 15 as those past 15 do.
+// The depth that stands for every depth past 15. It is a number like the others and no case of its own, since such depths are
+// only compared, and it compares with each depth up to 15 as those past 15 do.
 const TOO_DEEP: u8 = 16;
 
 // The first place of a byte.

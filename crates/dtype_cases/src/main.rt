@@ -32,9 +32,8 @@ fn answer_to(heap: Global, line: &str) -> Result<String, CaseError> {
     Ok(answer)
 }
 
-// Prints the answer to each case, and in the end how many cases there were. Each program that replays cases has such a loop of its
-// own: they share the choice of lines and the count, and an iterator type for these is no plainer, since no clause could say which
-// lines it gives.
+// Prints the answer to each case, and in the end how many cases there were. Each program that replays cases has such a loop:
+// what the two share is one chain of calls and a count, and an iterator type with its contract is longer than both.
 fn run_all(rt: &HostRuntime) -> io::Result<()> {
     let text = io::read_to_string(rt.alloc(), rt.stdin())?;
     let mut count: u64 = 0;

@@ -63,7 +63,8 @@ impl TryFrom<u32> for PType {
 
     ghost try_from_gives = { λ number r. MatchResult r (λ p. ptype_number p ≡ number) (λ _. (p : PType) → ptype_number p ≢ number) };
 
-    // Each number stands beside its case. To look the number up in `all` would rest on the order of that list, which is no plainer.
+    // Each number stands beside its case, and the check proves that alone. A search of `all` by number would need a lemma with a line
+    // for each case, which is no plainer.
     fn try_from(number: u32) -> Result<PType, UnknownNumber> {
         match number {
             0 => Ok(PType::U8),
@@ -196,7 +197,7 @@ impl Word for Nullability {
     }
 }
 
-// It is that of kinds. One impl for every type with words is refused, since TryFrom is a trait of the library.
+// The body is that of `Kind`. One impl for every type with words is refused, since TryFrom is a trait of the library.
 impl TryFrom<&[u8]> for Nullability {
     type Error = UnknownWord;
 

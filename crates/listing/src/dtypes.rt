@@ -31,7 +31,7 @@ impl fmt::Display for Node<'_, '_> {
 }
 
 // Prints a line for each line of the text: the children of a dtype stand below it, in their order. A recursion over the children
-// is no plainer: each call would be given the runtime, the text, the branches and the depth, since it prints between two children.
+// is no plainer: that it ends has to be proved from the numbers of the lines, while this loop takes a turn for each line.
 pub fn print_dtype(rt: &(impl Print + AllocGlobal), text: &DTypeText) -> io::Result<()> {
     let root = DType::Line(1);
     let mut branches = Branches::new(rt.alloc());

@@ -12,7 +12,8 @@ pub struct Open {
     pub dtype: DType,
     // The root's depth is 1.
     pub depth: u32,
-    // Which child is next, from 0, and how many there are. They are counted, since a dtype gives its k-th child by number.
+    // Which child is next, from 0, and how many there are. They are counted, since a dtype in use gives its k-th
+    // child by number: it holds neither its text nor a place among its children.
     pub next: usize,
     pub count: usize,
 }

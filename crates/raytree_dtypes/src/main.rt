@@ -16,8 +16,8 @@ fn run(rt: &HostRuntime) -> Result<bool, Failure> {
     let mut args = env::args(rt)?.skip(1);
     match (args.next(), args.next(), args.next(), args.next()) {
         (None, _, _, _) => {
-            // The loop of raytree differs in what a line names. One function for both would be given that as an enum, match on it and
-            // call one of two methods, which is no plainer than two loops.
+            // One function for this loop and that of raytree would take a closure, and no public function has a condition, or match
+            // on an enum, which is no plainer than two loops.
             for line in rt.lines(rt.alloc()) {
                 let names = line?;
                 if !names.is_empty() {

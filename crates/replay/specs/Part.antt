@@ -32,6 +32,6 @@ ReadsPart part r = MatchResult r
     (λ p. (p.letters.now ≡ letters_in part) × IsNumber (digits_in part) × (p.times ≡ number_of (digits_in part)))
     (λ e. (e ≡ NotACase) × (IsNumber (digits_in part) → ⊥))
 
--- What parts write: the letters of each, so often as it says.
+-- What parts write: the letters of each, as often as it says.
 abbrev pub expanded : List Part → List ℕ
 expanded parts = flat_map (λ letters. letters.now) (flat_map (λ part. replicate part.times part.letters) parts)

@@ -19,7 +19,7 @@ impl<'a> TryFrom<&'a str> for Part<'a> {
 
     ghost try_from_gives = { λ text r. ReadsPart text.now r };
 
-    // `LETTERS*TIMES` is repeated so often as it says, and letters alone stand once.
+    // `LETTERS*TIMES` is repeated as often as it says, and letters alone stand once.
     fn try_from(text: &'a str) -> Result<Part<'a>, CaseError> {
         let (letters, digits) = text.split_once('*').unwrap_or((text, "1"));
         let times = digits.parse::<u32>()?;
@@ -27,7 +27,7 @@ impl<'a> TryFrom<&'a str> for Part<'a> {
     }
 }
 
-// What parts write: the letters of each, so often as it says.
+// What parts write: the letters of each, as often as it says.
 pub fn expand(heap: Global, parts: &[Part<'_>]) -> Result<String, AllocError>
     ensures { IfOk result (λ text. string_bytes text ≡ expanded parts.now) }
 {

@@ -49,8 +49,8 @@ fn run_case(rt: &HostRuntime, line: &str) -> io::Result<bool> {
     Ok(is_expected)
 }
 
-// Runs all cases, and counts those that differ. Each program that replays cases has such a loop of its own: they share the choice of
-// lines and the count, and an iterator type for these is no plainer, since no clause could say which lines it gives.
+// Runs all cases, and counts those that differ. Each program that replays cases has such a loop:
+// what the two share is one chain of calls and a count, and an iterator type with its contract is longer than both.
 fn run_all(rt: &HostRuntime) -> io::Result<()> {
     let text = io::read_to_string(rt.alloc(), rt.stdin())?;
     let mut count: u64 = 0;
