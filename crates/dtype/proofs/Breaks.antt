@@ -1,6 +1,6 @@
 -- The lines of a text, one after another, and how many there are.
-use Rattle.std.proofs.Common.{◌≡◌, ℕ, zero, suc, ◌+◌, ◌<◌, min, Bool, eqb, List, [], ◌∷◌, ◌++◌, map, length, take, drop, Some, Option, MatchOption, sym, refl, ap, ◌∙◌, subst, inl, inr, arith}
-use Rattle.std.proofs.lemmas.List.{take_at, take_min, drop_at, drop_min, nil_from_length}
+use Rattle.std.proofs.Common.{◌≡◌, ℕ, zero, suc, ◌+◌, ◌<◌, min, Bool, eqb, List, [], ◌∷◌, ◌++◌, map, length, take, drop, Some, None, Option, MatchOption, sym, refl, ap, ◌∙◌, subst, inl, inr, arith}
+use Rattle.std.proofs.lemmas.List.{append_assoc, length-append, length-take-le, take_at, take_min, drop_at, drop_min, nil_from_length}
 use Rattle.std.proofs.lemmas.Bool.{eq-eqb, ne_eqb, cond-true, cond-false, cases_eq}
 use Rattle.std.specs.Fn.{ComputesKey}
 use Rattle.std.specs.Iterator.{Drains}
@@ -9,9 +9,9 @@ use Rattle.std.specs.Slice.Iter.{split_inclusive_rest, split_inclusive_callee}
 use Rattle.std.specs.declared.slice.SplitInclusive.{SplitInclusive}
 use denote.Param.Members.{Mut}
 use denote.Ref.{Bor}
-use Rattle.dtype.specs.Form.{◌>>=◌, place, onto, lines_of, fields_of, form_of, forms_of}
+use Rattle.dtype.specs.Form.{◌>>=◌, place, onto, lines_of, OneLine, fields_of, form_of, forms_of}
 use Rattle.kinds.proofs.Words.{never_some}
-use Rattle.dtype.proofs.Places.{Free, place_cases}
+use Rattle.dtype.proofs.Places.{Free, place_append, none_free, place_some, place_cases}
 
 -- a byte 0A is a line by itself, and any other byte begins the line that follows it
 pub lines_end : (x : ℕ) (xs : List ℕ) → x ≡ 10 → lines_of (x ∷ xs) ≡ (x ∷ []) ∷ lines_of xs
@@ -38,10 +38,7 @@ joined_lines (x ∷ s) =
     onto_joined [] = refl
     onto_joined (l ∷ ls) = refl
 
--- 0A stands in a line at its end only
-abbrev pub OneLine : List ℕ → Type 0
-OneLine l = (n : ℕ) → place 10 l ≡ Some n → length l ≡ suc n
-
+-- in each line 0A stands at the end only
 pub each_one_line : (s : List ℕ) → All OneLine (lines_of s)
 each_one_line [] = tt
 each_one_line (x ∷ s) =
@@ -67,6 +64,24 @@ each_one_line (x ∷ s) =
 -- what a line says is read from what stands before its 0A
 pub form_ended : (l : List ℕ) (n : ℕ) → place 10 l ≡ Some n → form_of l ≡ fields_of (take n l)
 form_ended l n e = ap (λ (o : Option ℕ). ◌>>=◌ o (λ k. fields_of (take k l))) e
+
+-- 0A does not stand before the last byte of a line
+front_free : (front : List ℕ) (x : ℕ) → OneLine (front ++ (x ∷ [])) → Free 10 front
+front_free front x one = on (place 10 front) refl
+  where
+    on : (o : Option ℕ) → place 10 front ≡ o → Free 10 front
+    on None e = none_free 10 front e
+    on (Some m) e =
+        let h = place_some 10 front m e in
+        let there : front ++ (x ∷ []) ≡ take m front ++ (10 ∷ (drop (m + 1) front ++ (x ∷ []))) = ap (λ l. l ++ (x ∷ [])) h.1 ∙ append_assoc (take m front) (10 ∷ drop (m + 1) front) (x ∷ []) in
+        let long = one (length (take m front)) (ap (place 10) there ∙ place_append 10 (take m front) _ h.2) in
+        absurd (omega (arith, h.0, long, length-take-le m front (omega (arith, h.0)), length-append front (x ∷ [])))
+
+-- a line that ends with 0A says what stands before it
+pub form_closed : (l front : List ℕ) → OneLine l → l ≡ front ++ (10 ∷ []) → form_of l ≡ fields_of front
+form_closed l front one e =
+    let free = front_free front 10 (subst OneLine e one) in
+    ap form_of e ∙ form_ended (front ++ (10 ∷ [])) (length front) (place_append 10 front [] free) ∙ ap fields_of (take_at front (10 ∷ []) (length front) refl)
 
 -- the first line ends at the first 0A, or at the end where there is none
 line_over : (s : List ℕ) (i : ℕ) → IsFirstMatchOrLen (λ b. eqb b 10) s i → 0 < length s → lines_of s ≡ take (suc i) s ∷ lines_of (drop (suc i) s)
@@ -103,6 +118,9 @@ module _ {F : Type 0} (g : Mut F (Bor ℕ × Unit {0}) Bool) where
   pub pieces_count : (s : SplitInclusive ℕ F) (xs : List (Bor (List ℕ))) → ((f : F) → ComputesKey g (λ b. eqb b 10) f) → Drains pieces s xs → length xs ≡ length (lines_of (split_inclusive_rest s))
   pieces_count s [] k (u, (t, e, n)) = ap (λ r. length (lines_of r)) (sym (nil_from_length (split_inclusive_rest t) n.0)) ∙ ap (λ z. length (lines_of (split_inclusive_rest z))) (sym e)
   pieces_count s (x ∷ xs) k (u, (t, (j, h, ys), n)) = ap suc (pieces_count j xs k (u, (t, ys, n))) ∙ ap length (sym (first_piece s j x (k (split_inclusive_callee s)) h))
+
+  pub first_one_line : (s t : SplitInclusive ℕ F) (x : Bor (List ℕ)) → ComputesKey g (λ b. eqb b 10) (split_inclusive_callee s) → pieces s (Some x) t → OneLine x.now
+  first_one_line s t x k h = (subst (All OneLine) (first_piece s t x k h) (each_one_line (split_inclusive_rest s))).0
 
   -- what the lines of a text say, by its first piece
   pub first_form : (s t : SplitInclusive ℕ F) (x : Bor (List ℕ)) → ComputesKey g (λ b. eqb b 10) (split_inclusive_callee s) → pieces s (Some x) t → forms_of (split_inclusive_rest s) ≡ form_of x.now ∷ forms_of (split_inclusive_rest t)

@@ -1,11 +1,11 @@
 -- When two trees are equal, child by child.
-use Rattle.std.proofs.Common.{◌≡◌, ℕ, Bool, true, false, not, List, refl, subst}
+use Rattle.std.proofs.Common.{◌≡◌, ℕ, Bool, true, false, not, List, drop, refl, subst}
 use Rattle.std.proofs.lemmas.Slice.Eq.{bytes_eq-Decides}
 use Rattle.std.specs.Str.{bytes_eq}
 use Rattle.dtype.specs.declared.nodes.Node.{Node}
 use Rattle.dtype.specs.declared.nodes.ChildNodes.{ChildNodes}
-use Rattle.dtype.specs.Tree.{Tree, Children}
-use Rattle.dtype.specs.Node.{tree_in, children_left, IsNext}
+use Rattle.dtype.specs.Tree.{Tree, Children, children_of, sizes}
+use Rattle.dtype.specs.Node.{tree_in, children_left, IsFirst, IsNext}
 use Rattle.dtype.proofs.ChildLines.{next_child}
 
 -- Whether all children agree is whether those that are left do.
@@ -29,6 +29,10 @@ names_same a b e = (bytes_eq-Decides a b).0 (on (bytes_eq a b) e)
     on : (r : Bool) → false ≡ not r → r ≡ true
     on true q = refl
     on false q = q
+
+-- The children after the first, as the next call would leave them.
+pub passed : (s t : ChildNodes) (n : Node) → IsFirst s n → t.depth ≡ s.depth → t.lines.now ≡ drop (sizes (children_of (tree_in n))) n.later.now → IsNext s n t
+passed s t n h d l = record { lines = h.lines; deeper = h.deeper; bound = h.bound; depth = d; after = l }
 
 -- The next child on either side agrees, and those after it decide.
 pub next_agrees : (s t s' t' : ChildNodes) (n m : Node) → IsNext s n s' → IsNext t m t' → n.line.name.now ≡ m.line.name.now → tree_in n ≡ tree_in m → (us zs : Children) → Left us zs (children_left s) (children_left t) → Left us zs (children_left s') (children_left t')

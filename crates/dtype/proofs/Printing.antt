@@ -7,14 +7,14 @@ use Rattle.kinds.specs.declared.Kind.{Kind}
 use Rattle.kinds.specs.declared.Nullability.{Nullability}
 use Rattle.dtype.specs.Row.{Row}
 use Rattle.kinds.specs.Word.{kind_named, mark_named}
-use Rattle.dtype.specs.Form.{◌>>=◌, place, lines_of, depth_of, without_tab, last_field, fields_of, form_of, forms_of}
+use Rattle.dtype.specs.Form.{◌>>=◌, place, lines_of, OneLine, depth_of, without_tab, last_field, fields_of, form_of, forms_of}
 use Rattle.dtype.specs.Tree.{printed_row, printed_rows}
 use Rattle.kinds.specs.Word.{kind_word, mark_word}
 use Rattle.kinds.proofs.Words.{same_some}
 use Rattle.dtype.proofs.Places.{Free, bind_some, place_append, free_none, none_free, place_some}
 use Rattle.kinds.proofs.Words.{kind_word_lem, word_kind, mark_word_lem, word_mark}
 use Rattle.dtype.proofs.Words.{Clean, clean_tab, clean_end, clean_both, clean_kind, clean_mark, clean_decimal, depth_decimal, decimal_depth}
-use Rattle.dtype.proofs.Breaks.{OneLine, each_one_line, joined_lines, lines_append, form_ended}
+use Rattle.dtype.proofs.Breaks.{each_one_line, joined_lines, lines_append, form_ended}
 
 -- A field up to a tab, read by `read`, and what is made of the rest: `fields_of` is three of these and `name_then`.
 abbrev cut : {A B : Type 0} → (List ℕ → Option A) → (A → List ℕ → Option B) → List ℕ → Option B

@@ -1,5 +1,5 @@
 -- The lines of a text, and what a line in form says.
-use Rattle.std.specs.Prelude.{ℕ, ◌+◌, ◌-◌, ◌*◌, min, Bool, cond, not, ◌&&◌, ◌||◌, List, [], ◌∷◌, map, length, take, drop, Some, None, Option, ◌==◌, nat_lt, slice_index}
+use Rattle.std.specs.Prelude.{◌≡◌, ℕ, suc, ◌+◌, ◌-◌, ◌*◌, min, Bool, cond, not, ◌&&◌, ◌||◌, List, [], ◌∷◌, map, length, take, drop, Some, None, Option, ◌==◌, nat_lt, slice_index}
 use Rattle.std.specs.List.{position}
 use Rattle.std.specs.Option.{option_and_then}
 use Rattle.std.specs.Str.{all_ascii_digits}
@@ -22,6 +22,10 @@ onto x (l ∷ ls) = (x ∷ l) ∷ ls
 abbrev pub lines_of : List ℕ → List (List ℕ)
 lines_of [] = []
 lines_of (x ∷ xs) = cond (x == 10) ((x ∷ []) ∷ lines_of xs) (onto x (lines_of xs))
+
+-- 0A stands in a line at its end only.
+abbrev pub OneLine : List ℕ → Type 0
+OneLine l = (n : ℕ) → place 10 l ≡ Some n → length l ≡ suc n
 
 -- The number that decimal digits write.
 abbrev pub value_from : ℕ → List ℕ → ℕ

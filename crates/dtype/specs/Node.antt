@@ -30,6 +30,15 @@ pub record IsNext (s : ChildNodes) (n : Node) (t : ChildNodes) : Type 0 where
   pub depth : t.depth ≡ s.depth
   pub after : t.lines.now ≡ drop (sizes (children_of (tree_in n))) n.later.now
 
+-- The first of the children that are still to come, of which s has the lines.
+pub record IsFirst (s : ChildNodes) (n : Node) : Type 0 where
+  pub lines : s.lines.now ≡ lines_from n
+  pub deeper : s.depth < n.line.depth
+  pub bound : n.line.depth < 256
+
+abbrev pub FirstChild : ChildNodes → Option Node → Type 0
+FirstChild s r = MatchOption r (children_left s ≡ Children.none) (IsFirst s)
+
 -- What the next call gives: none where no child is left.
 abbrev pub NextChild : ChildNodes → Option Node → ChildNodes → Type 0
 NextChild s r t = MatchOption r (children_left s ≡ Children.none) (λ n. IsNext s n t)

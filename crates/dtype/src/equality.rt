@@ -8,16 +8,19 @@ use crate::lines::DTypeText;
 use crate::nodes::Node;
 
 impl Node<'_, '_> {
-    // Whether the dtypes of two nodes are equal. Each call for a child is on a deeper line, so the depth that remains falls.
+    // Whether the dtypes of two nodes are equal. Each call for a child is on a deeper line, so the depth that remains falls. The lines
+    // below two children are passed over only once these agree, so that dtypes which differ early cost no more than that. The iterator
+    // passes over them before it gives a child, so it does not fit.
     fn equals(self, other: Node) -> bool
         ensures { Decides result (tree_in self.entry ≡ tree_in other.entry) }
     {
         if self.line.head != other.line.head {
             return false;
         }
+        let mut left = self.children();
         let mut others = other.children();
-        for child in self.children() {
-            let Some(twin) = others.next() else {
+        while let Some(child) = left.first() {
+            let Some(twin) = others.first() else {
                 return false;
             };
             if child.line.name != twin.line.name {
@@ -26,8 +29,10 @@ impl Node<'_, '_> {
             if !child.equals(twin) {
                 return false;
             }
+            left = left.past(child);
+            others = others.past(twin);
         }
-        others.next().is_none()
+        others.first().is_none()
     }
 }
 

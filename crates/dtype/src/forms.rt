@@ -1,7 +1,7 @@
 // One line of a dtype text.
 ghost use Rattle.std.specs.Prelude.{◌≡◌, ◌<◌, length, IfSome, None as Nothing, MatchOption};
 ghost use Rattle.dtype.specs.Row.{said_by};
-ghost use Rattle.dtype.specs.Form.{place, depth_of, form_of};
+ghost use Rattle.dtype.specs.Form.{place, depth_of, fields_of, form_of, OneLine};
 ghost use Rattle.dtype.specs.Step.{Cut};
 
 use crate::lines::{Head, Line};
@@ -51,11 +51,22 @@ fn depth_of(digits: &[u8]) -> Option<u8>
 }
 
 impl<'a> Line<'a> {
-    // What the bytes of a line say; none where it is not in form: four fields with a tab between two, and 0A at the end.
+    // What a line says, by its bytes with the 0A that ends it; none where it is not in form. A 0A stands in a line at its end only, so
+    // it is looked for there alone.
     pub(crate) fn read(bytes: &'a [u8]) -> Option<Line<'a>>
-        ensures { said_by result ≡ form_of bytes.now }
+        ensures { OneLine bytes.now → said_by result ≡ form_of bytes.now }
     {
-        let (fields, _) = split_once(bytes, NEWLINE)?;
+        let (end, fields) = bytes.split_last()?;
+        if *end != NEWLINE {
+            return None;
+        }
+        Line::of_fields(fields)
+    }
+
+    // What the bytes of a line without its 0A say: four fields with a tab between two.
+    fn of_fields(fields: &'a [u8]) -> Option<Line<'a>>
+        ensures { said_by result ≡ fields_of fields.now }
+    {
         let (digits, rest) = split_once(fields, TAB)?;
         let depth = depth_of(digits)?;
         let (word, rest) = split_once(rest, TAB)?;

@@ -3,7 +3,7 @@ ghost use Rattle.std.specs.Prelude.{◌≡◌, length, drop};
 ghost use Rattle.std.specs.Iterator.{at_most};
 ghost use Rattle.dtype.specs.Tree.{children_of, sizes};
 ghost use Rattle.dtype.specs.Use.{count as count_of};
-ghost use Rattle.dtype.specs.Node.{tree_in, NextChild, ChildAt};
+ghost use Rattle.dtype.specs.Node.{tree_in, FirstChild, NextChild, ChildAt};
 
 use crate::lines::Line;
 
@@ -58,6 +58,30 @@ impl<'t, 'a> Node<'t, 'a> {
         ensures { ChildAt self.entry k result }
     {
         self.children().nth(k)
+    }
+}
+
+impl<'t, 'a> ChildNodes<'t, 'a> {
+    // The next child, which is still to come. What is below it is not looked at.
+    pub(crate) fn first(self) -> Option<Node<'t, 'a>>
+        ensures { FirstChild self.entry result }
+    {
+        let (line, later) = self.lines.split_first()?;
+        if line.depth <= self.depth {
+            return None;
+        }
+        Some(Node { line: *line, later })
+    }
+
+    // The children after one, which is the next.
+    pub(crate) fn past(self, child: Node<'t, 'a>) -> ChildNodes<'t, 'a>
+        ensures depth { result.depth ≡ self.entry.depth }
+        ensures lines { result.lines.now ≡ drop (sizes (children_of (tree_in child.entry))) child.entry.later.now }
+    {
+        ChildNodes {
+            depth: self.depth,
+            lines: child.after(),
+        }
     }
 }
 

@@ -12,8 +12,9 @@ use std::fmt::Write;
 pub fn write_equality(answer: &mut String, mut case: Case<'_>) -> Result<(), CaseError> {
     let heap = *answer.allocator();
     let dtype = dtype_of(next_word(&mut case.words)?)?;
-    let other_bytes = bytes_of(heap, next_word(&mut case.words)?)?;
+    let other_letters = next_word(&mut case.words)?;
     let other = dtype_of(next_word(&mut case.words)?)?;
+    let other_bytes = bytes_of(heap, other_letters)?;
     let text = accepted(heap, case.bytes.as_slice())?;
     let other_text = accepted(heap, other_bytes.as_slice())?;
     let there = dtype.equals(&text, other, &other_text);

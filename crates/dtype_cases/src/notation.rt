@@ -9,9 +9,18 @@ use std::fmt::Display;
 
 // The bytes that a word writes in parts between `|`. A part may end with how often it is repeated, as in `a*64`.
 pub fn bytes_of(heap: Global, word: &str) -> Result<Vec<u8>, CaseError> {
-    let parts: Vec<Part<'_>> = word.split('|').map(Part::try_from).try_collect(heap)?;
-    let letters = expand(heap, parts.as_slice())?;
-    Ok(letters.bytes().map(byte_of).collect(heap)?)
+    let mut bytes = Vec::new(heap);
+    for part in word.split('|') {
+        let part = Part::try_from(part)?;
+        if part.times > 0 {
+            let from = bytes.len();
+            for byte in part.letters.bytes().map(byte_of) {
+                bytes.push(byte)?;
+            }
+            expand(&mut bytes, from, part.times)?;
+        }
+    }
+    Ok(bytes)
 }
 
 // The byte that a letter writes: some letters stand for bytes that cannot be written in a word, or could hardly be read there,

@@ -84,7 +84,7 @@ pub fn write_word(answer: &mut String, mut case: Case<'_>) -> Result<(), CaseErr
     let kind = Kind::try_from(word).ok();
     write!(answer, " {}", Found(kind.map(Kind::word)))?;
     if let Some(Kind::Primitive(ptype)) = kind {
-        write!(answer, " {}", u32::from(ptype))?;
+        write!(answer, " {}", ptype.number())?;
     }
     let mark = Found(Nullability::try_from(word).ok().map(Nullability::word));
     let named = Found(PType::try_from(number).ok().map(PType::word));

@@ -1,4 +1,4 @@
-ghost use Rattle.std.specs.Prelude.{◌≤◌, length, All};
+ghost use Rattle.std.specs.Prelude.{◌≡◌, ◌≤◌, length, take, All};
 ghost use Rattle.std.proofs.Props.{props};
 ghost use Rattle.ids.specs.Size.{Sized};
 
@@ -17,18 +17,21 @@ const ROOM: usize = MOST_IDS as usize;
 
 pub(crate) type Id = ArrayVec<u8, MOST_BYTES>;
 
-// A list of at most 64 ids of 1 to 64 bytes, with the room for all of them. These facts are ghost fields and not the invariant
-// of a Model, so that callers know them of every list.
+// A list of at most 64 ids of 1 to 64 bytes, with the room for all of them. What stands in the room behind the last id counts for
+// nothing, so taking ids off the end lowers the count alone. These facts are ghost fields and not the invariant of a Model, so
+// that callers know them of every list.
 #[derive(Drop)]
 pub struct Ids {
-    list: ArrayVec<Id, ROOM>,
+    room: [Id; ROOM],
+    count: u8,
     closed: bool,
-    pub ghost within: { length list.items ≤ 64 },
-    pub ghost sized: { All (λ id. Sized id.items) list.items } by { Prim.hlevel props },
+    ghost whole: { length room ≡ 64 },
+    pub ghost within: { count ≤ 64 },
+    pub ghost sized: { All (λ id. Sized id.items) (take count room) } by { Prim.hlevel props },
 }
 
 impl Ids {
-    ghost use Rattle.std.specs.Prelude.{◌≡◌, ◌-◌, true, false, [], take, IfSome, OnErr};
+    ghost use Rattle.std.specs.Prelude.{◌≡◌, ◌-◌, ◌<◌, true, false, [], ◌∷◌, ◌++◌, take, IfSome, OnErr};
     ghost use Rattle.ids.specs.Value.{ids_of, is_open};
     ghost use Rattle.ids.specs.Add.{added, joined, added_all, joined_all};
     ghost use Rattle.ids.specs.Place.{IdAt, FirstPlace};
@@ -39,7 +42,8 @@ impl Ids {
         ensures state { is_open result ≡ true }
     {
         Ids {
-            list: ArrayVec::new(),
+            room: Default::default(),
+            count: 0,
             closed: false,
         }
     }
@@ -49,7 +53,7 @@ impl Ids {
         ensures count { result ≡ length (ids_of self.now) }
         ensures most { result ≤ 64 }
     {
-        self.list.len() as u16
+        self.count as u16
     }
 
     // Does the list take more ids?
@@ -72,7 +76,7 @@ impl Ids {
         ensures { result ≡ ids_of self.now }
     {
         Iter {
-            ids: self.list.as_slice(),
+            ids: self.as_slice(),
         }
     }
 
@@ -81,7 +85,7 @@ impl Ids {
         ensures id { IdAt (ids_of self.now) place result }
         ensures size { IfSome result (λ id. Sized id.now) }
     {
-        let id = self.list.get(usize::from(place))?;
+        let id = self.as_slice().get(usize::from(place))?;
         Some(id.as_slice())
     }
 
@@ -100,17 +104,18 @@ impl Ids {
         ensures state { is_open self.new ≡ is_open self.old }
         ensures refused { OnErr result (self.new ≡ self.old) }
     {
-        if id.is_empty() {
+        if id.is_empty() || id.len() > MOST_BYTES {
             return Err(Fault::Length);
         }
-        let id = ArrayVec::try_from(id).map_err(|_| Fault::Length)?;
         if self.closed {
             return Err(Fault::Closed);
         }
-        if self.list.is_full() {
+        if self.len() >= MOST_IDS {
             return Err(Fault::Full);
         }
-        self.list.push(id);
+        let mut last = Id::new();
+        last.try_extend_from_slice(id).map_err(|_| Fault::Length)?;
+        self.push(last);
         Ok(())
     }
 
@@ -133,7 +138,25 @@ impl Ids {
         ensures ids { ids_of self.new ≡ take (length (ids_of self.old) - last) (ids_of self.old) }
         ensures state { is_open self.new ≡ is_open self.old }
     {
-        let len = self.list.len().saturating_sub(usize::from(last));
-        self.list.truncate(len);
+        self.count = self.count.saturating_sub(last);
+    }
+
+    // The ids, each as it stands in the room.
+    fn as_slice(&self) -> &[Id]
+        ensures { result.now ≡ take self.now.count self.now.room }
+    {
+        &self.room[..usize::from(self.count)]
+    }
+
+    // Writes an id behind the last one.
+    fn push(&mut self, id: Id)
+        requires room { length (ids_of self.old) < 64 }
+        requires size { Sized id.items }
+        ensures ids { ids_of self.new ≡ ids_of self.old ++ id.items ∷ [] }
+        ensures state { is_open self.new ≡ is_open self.old }
+    {
+        let place = usize::from(self.count);
+        self.room[place] = id;
+        self.count += 1;
     }
 }

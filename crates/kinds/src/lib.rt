@@ -50,11 +50,20 @@ pub enum Nullability {
 #[error("the number stands for no number type")]
 pub struct UnknownNumber;
 
+impl PType {
+    // The number under which files store it.
+    pub fn number(self) -> u32
+        ensures { result ≡ ptype_number self }
+    {
+        self as u32
+    }
+}
+
 impl From<PType> for u32 {
     ghost from_gives = { λ ptype number. number ≡ ptype_number ptype };
 
     fn from(ptype: PType) -> u32 {
-        ptype as u32
+        ptype.number()
     }
 }
 

@@ -32,7 +32,7 @@ pub(crate) fn from_word<W: Word>(word: &[u8]) -> Result<W, UnknownWord>
 {
     W::all()
         .iter()
-        .copied()
         .find(|value| word == value.word().as_bytes())
+        .copied()
         .ok_or(UnknownWord)
 }

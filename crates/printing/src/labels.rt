@@ -72,6 +72,10 @@ impl Labels {
     pub fn widest(&self, records: &[Option<Record<u32>>]) -> usize
         ensures { result ≡ greatest_of (λ t. (label_at self.now t.encoding).width) records.now }
     {
+        // Without a list of ids there is nothing to look for in the records.
+        if self.known.is_empty() && self.unknown.width == 0 {
+            return 0;
+        }
         max_of(records, 0, |table| self.get(table.encoding).width)
     }
 }

@@ -1,4 +1,4 @@
-// What programs that replay cases share: why a line is no case, its words, and words whose parts are repeated.
+// What programs that replay cases share: why a line is no case, its words, and the parts of words, whose bytes are repeated.
 #![tactic(auto)]
 
 mod faults;

@@ -1,11 +1,9 @@
 // The parts of a word.
-ghost use Rattle.std.specs.Prelude.{◌≡◌, IfOk};
-ghost use Rattle.std.specs.String.{string_bytes};
+ghost use Rattle.std.specs.Prelude.{◌≡◌, length, take, OnOk, OnErr};
 ghost use Rattle.replay.specs.Part.{ReadsPart, expanded};
 
 use crate::faults::CaseError;
-use std::alloc::{AllocError, Global};
-use std::iter;
+use std::alloc::AllocError;
 
 // A part of a word: letters, and how often they are repeated.
 #[derive(Clone, Copy)]
@@ -27,14 +25,26 @@ impl<'a> TryFrom<&'a str> for Part<'a> {
     }
 }
 
-// What parts write: the letters of each, as often as it says.
-pub fn expand(heap: Global, parts: &[Part<'_>]) -> Result<String, AllocError>
-    ensures { IfOk result (λ text. string_bytes text ≡ expanded parts.now) }
+// Makes what stands from a place on stand as often as it says: no times at all, and it is taken away. Where there is no memory,
+// what stood still stands, and some of its repeats may follow.
+pub fn expand(bytes: &mut Vec<u8>, from: usize, times: u32) -> Result<(), AllocError>
+    ensures ok { OnOk result (bytes.new.items ≡ expanded from times bytes.old.items) }
+    ensures err { OnErr result (take (length bytes.old.items) bytes.new.items ≡ bytes.old.items) }
 {
-    parts
-        .iter()
-        .flat_map(|part| iter::repeat_n(part.letters, part.times as usize))
-        .collect(heap)
+    let end = bytes.len();
+    if times == 0 {
+        bytes.truncate(from);
+    } else if from < end {
+        let room = end - from;
+        let mut stands = 1;
+        // All that stands is repeated at once, and in the end as much of it as is lacking.
+        while stands < times {
+            let more = stands.min(times - stands);
+            bytes.extend_from_within(from..from + room * more as usize)?;
+            stands += more;
+        }
+    }
+    Ok(())
 }
 
 #[cfg(test)]
@@ -49,8 +59,13 @@ mod tests {
             Part::try_from("c")?,
             Part::try_from("d*0")?,
         ];
-        let text = expand(rt.alloc(), &parts)?;
-        assert_eq!(rt; text.as_str(), "abababc");
+        let mut text = Vec::new(rt.alloc());
+        for part in parts {
+            let from = text.len();
+            text.extend_from_slice(part.letters.as_bytes())?;
+            expand(&mut text, from, part.times)?;
+        }
+        assert_eq!(rt; text.as_slice(), b"abababc".as_slice());
         Ok(())
     }
 }

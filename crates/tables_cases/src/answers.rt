@@ -49,15 +49,16 @@ fn write_table(
     )?;
     write!(
         text,
-        "{}/{}/{}:{}/",
-        table.encoding,
-        table.rows,
-        table.metadata.from,
-        hex::encode(*text.allocator(), metadata)?
+        "{}/{}/{}:",
+        table.encoding, table.rows, table.metadata.from
     )?;
+    // Each byte is written by itself: the digits of all of them would stand a second time, beside the text.
+    for byte in metadata {
+        write!(text, "{byte:02x}")?;
+    }
     write!(
         text,
-        "{}/{}/{}",
+        "/{}/{}/{}",
         table.children, table.below, table.segments.from
     )?;
     for id in segments.iter() {

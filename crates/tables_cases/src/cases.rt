@@ -1,5 +1,6 @@
 // A case, as the words of a line write it.
-use hex::FromHexError;
+ghost use Rattle.std.specs.Prelude.{◌<◌, IfOk};
+
 use replay::{CaseError, Part, expand, next_word};
 use std::alloc::Global;
 use tables::Limits;
@@ -32,21 +33,44 @@ impl<'a> Case<'a> {
     }
 }
 
-// Whether the letters of a part, if they stand at all, are two hex digits in lower case for each byte.
-fn is_hex(part: &Part<'_>) -> bool {
-    let is_upper = |letter: u8| letter.is_ascii_uppercase();
-    part.times == 0 || (part.letters.len() % 2 == 0 && !part.letters.bytes().any(is_upper))
+// The bytes of a word, which has parts between dots. A part is hex, and may end with how often it is repeated, as in `00*16`:
+// letters that are not to stand are not read.
+fn bytes_of(heap: Global, word: &str) -> Result<Vec<u8>, CaseError> {
+    let mut bytes = Vec::new(heap);
+    for part in word.split('.') {
+        let part = Part::try_from(part)?;
+        if part.times > 0 {
+            let from = bytes.len();
+            add_hex(&mut bytes, part.letters)?;
+            expand(&mut bytes, from, part.times)?;
+        }
+    }
+    Ok(bytes)
 }
 
-// The bytes of a word, which has parts between dots. A part is hex, and may end with how often it is repeated, as in `00*16`.
-fn bytes_of(heap: Global, word: &str) -> Result<Vec<u8>, CaseError> {
-    let parts: Vec<Part<'_>> = word.split('.').map(Part::try_from).try_collect(heap)?;
-    if !parts.iter().all(is_hex) {
-        return Err(CaseError::NotACase);
+// Adds the bytes of letters that are two hex digits in lower case for each.
+fn add_hex(bytes: &mut Vec<u8>, letters: &str) -> Result<(), CaseError> {
+    for digits in letters.as_bytes().chunks(2) {
+        bytes.push(hex_byte(digits)?)?;
     }
-    let digits = expand(heap, parts.as_slice())?;
-    hex::decode(heap, digits.as_str()).map_err(|fault| match fault {
-        FromHexError::OutOfMemory => CaseError::Memory,
-        _ => CaseError::NotACase,
-    })
+    Ok(())
+}
+
+// The byte that two hex digits in lower case write.
+fn hex_byte(digits: &[u8]) -> Result<u8, CaseError> {
+    match digits {
+        [high, low] => Ok(hex_digit(*high)? * 16 + hex_digit(*low)?),
+        _ => Err(CaseError::NotACase),
+    }
+}
+
+// The value of a hex digit in lower case.
+fn hex_digit(digit: u8) -> Result<u8, CaseError>
+    ensures { IfOk result (λ value. value < 16) }
+{
+    match digit {
+        b'0'..=b'9' => Ok(digit - b'0'),
+        b'a'..=b'f' => Ok(digit - b'a' + 10),
+        _ => Err(CaseError::NotACase),
+    }
 }

@@ -34,10 +34,13 @@ const STALE: Record<u32> = Record {
 
 // Runs the case of a line on stale records, prints what came of it, and tells whether that is as expected.
 fn run_case(rt: &HostRuntime, line: &str) -> io::Result<bool> {
+    let mut records = [Some(STALE); MOST_RECORDS];
     let case = Case::read(rt.alloc(), line).map_err(|_| io::Error::other("a line is no case"))?;
-    let mut records = vec![in rt.alloc(); Some(STALE); case.records.min(MOST_RECORDS)]?;
+    let records = &mut records[0..case.records.min(MOST_RECORDS)];
     let mut found = String::new(rt.alloc());
-    write_answer(&mut found, &case, records.as_mut_slice())?;
+    // An answer that ends early, for want of memory, is told by what was written of it: it lacks what is expected, and the case
+    // differs, or what is expected came before its end. The cases after it are run all the same.
+    let _ = write_answer(&mut found, &case, records);
     let name = case.name;
     // A case of thousands of tables does not list them.
     let is_expected = found.starts_with(case.expected);
