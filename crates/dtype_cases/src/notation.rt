@@ -2,7 +2,7 @@
 ghost use Rattle.std.specs.Prelude.{◌≡◌};
 ghost use Rattle.dtype_cases.specs.Notation.{byte_of};
 
-use replay::{CaseError, Part, expand};
+use replay::{CaseError, Part, repeat_from};
 use std::alloc::Global;
 use std::fmt;
 use std::fmt::Display;
@@ -17,7 +17,7 @@ pub fn bytes_of(heap: Global, word: &str) -> Result<Vec<u8>, CaseError> {
             for byte in part.letters.bytes().map(byte_of) {
                 bytes.push(byte)?;
             }
-            expand(&mut bytes, from, part.times)?;
+            repeat_from(&mut bytes, from, part.times)?;
         }
     }
     Ok(bytes)

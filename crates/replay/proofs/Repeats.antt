@@ -4,23 +4,23 @@ use Rattle.std.specs.List.{flat_map, slice_range}
 use Rattle.std.proofs.Math.Nat.{mul-le-mul_left}
 use Rattle.std.proofs.lemmas.List.{append-nil, append_assoc, length-append, length-drop, length-take, length-take-le, take-append-drop, take-append-le, take_at, take_all, drop_at, drop_all, replicate-append-replicate}
 use Rattle.std.proofs.lemmas.List.Concat.{flat_map-append}
-use Rattle.replay.specs.Part.{expanded}
+use Rattle.replay.specs.Part.{repeated_from}
 
 -- A rest, as often as it says.
-abbrev repeats : ℕ → List ℕ → List ℕ
+abbrev pub repeats : ℕ → List ℕ → List ℕ
 repeats times rest = flat_map (λ rest. rest) (replicate times rest)
 
 -- What stands once is what stood.
-pub expanded_once : (from : ℕ) (items : List ℕ) → items ≡ expanded from 1 items
-expanded_once from items = simp (append-nil, take-append-drop)
+pub repeated_once : (from : ℕ) (items : List ℕ) → items ≡ repeated_from from 1 items
+repeated_once from items = simp (append-nil, take-append-drop)
 
 nothing : (times : ℕ) → repeats times [] ≡ []
 nothing zero = refl
 nothing (suc k) = nothing k
 
 -- Past the end there is nothing to repeat.
-pub expanded_nothing : (from times : ℕ) (items : List ℕ) → length items ≤ from → items ≡ expanded from times items
-expanded_nothing from times items past =
+pub repeated_nothing : (from times : ℕ) (items : List ℕ) → length items ≤ from → items ≡ repeated_from from times items
+repeated_nothing from times items past =
     let rest = drop_all from items past in
     let front = take_all from items past in
     simp (rest, front, nothing, append-nil)
@@ -44,7 +44,7 @@ repeats_add k m rest =
     ap (flat_map (λ rest. rest)) (sym (replicate-append-replicate k m rest))
     ∙ flat_map-append (λ rest. rest) (replicate k rest) (replicate m rest)
 
-rest_after : (from times : ℕ) (items : List ℕ) → from ≤ length items → drop from (expanded from times items) ≡ repeats times (drop from items)
+rest_after : (from times : ℕ) (items : List ℕ) → from ≤ length items → drop from (repeated_from from times items) ≡ repeats times (drop from items)
 rest_after from times items within =
     drop_at (take from items) (repeats times (drop from items)) from (length-take-le from items within)
 
@@ -53,7 +53,7 @@ pub part_within : (from stands more room : ℕ) (items now : List ℕ)
     → from ≤ length items
     → room ≡ length items - from
     → more ≤ stands
-    → now ≡ expanded from stands items
+    → now ≡ repeated_from from stands items
     → from + room * more ≤ length now
 part_within from stands more room items now within is_room fewer grown =
     let fits : room * more ≤ room * stands = mul-le-mul_left room fewer in
@@ -65,15 +65,15 @@ part_within from stands more room items now within is_room fewer grown =
     omega (arith, fits, size)
 
 -- As much as `more` times the rest stands at the place, and is repeated.
-pub expanded_more : (from stands more room end : ℕ) (items now new : List ℕ)
+pub repeated_more : (from stands more room end : ℕ) (items now new : List ℕ)
     → from ≤ length items
     → room ≡ length items - from
     → end ≡ from + room * more
     → more ≤ stands
-    → now ≡ expanded from stands items
+    → now ≡ repeated_from from stands items
     → new ≡ now ++ slice_range now from end
-    → new ≡ expanded from (stands + more) items
-expanded_more from stands more room end items now new within is_room is_end fewer grown added =
+    → new ≡ repeated_from from (stands + more) items
+repeated_more from stands more room end items now new within is_room is_end fewer grown added =
     let rest = drop from items in
     let count : end - from ≡ length rest * more =
     omega (arith, is_end, ap (λ n. n * more) (length-drop from items ∙ sym is_room))
@@ -87,7 +87,7 @@ expanded_more from stands more room end items now new within is_room is_end fewe
     ap (take (end - from)) all
     ∙ take_at (repeats more rest) (repeats (stands - more) rest) (end - from) (length_repeats more rest ∙ sym count)
     in
-    let again : expanded from stands items ++ repeats more rest ≡ expanded from (stands + more) items =
+    let again : repeated_from from stands items ++ repeats more rest ≡ repeated_from from (stands + more) items =
     append_assoc (take from items) (repeats stands rest) (repeats more rest)
     ∙ ap (λ repeated. take from items ++ repeated) (sym (repeats_add stands more rest))
     in

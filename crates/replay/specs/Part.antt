@@ -32,6 +32,10 @@ ReadsPart part r = MatchResult r
     (λ p. (p.letters.now ≡ letters_in part) × IsNumber (digits_in part) × (p.times ≡ number_of (digits_in part)))
     (λ e. (e ≡ NotACase) × (IsNumber (digits_in part) → ⊥))
 
+-- What parts write: the letters of each, as often as it says.
+abbrev pub expanded : List Part → List ℕ
+expanded parts = flat_map (λ letters. letters.now) (flat_map (λ part. replicate part.times part.letters) parts)
+
 -- What stood before a place, and then the rest, as often as it says.
-abbrev pub expanded : ℕ → ℕ → List ℕ → List ℕ
-expanded from times items = take from items ++ flat_map (λ rest. rest) (replicate times (drop from items))
+abbrev pub repeated_from : ℕ → ℕ → List ℕ → List ℕ
+repeated_from from times items = take from items ++ flat_map (λ rest. rest) (replicate times (drop from items))

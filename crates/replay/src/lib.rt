@@ -1,4 +1,4 @@
-// What programs that replay cases share: why a line is no case, its words, and the parts of words, whose bytes are repeated.
+// What programs that replay cases share: why a line is no case, its words, and the parts of words: what they write, and bytes that are repeated.
 #![tactic(auto)]
 
 mod faults;
@@ -6,5 +6,5 @@ mod parts;
 mod words;
 
 pub use faults::CaseError;
-pub use parts::{Part, expand};
+pub use parts::{Part, expand, repeat_from};
 pub use words::next_word;

@@ -1,9 +1,10 @@
 // The parts of a word.
-ghost use Rattle.std.specs.Prelude.{◌≡◌, length, take, OnOk, OnErr};
-ghost use Rattle.replay.specs.Part.{ReadsPart, expanded};
+ghost use Rattle.std.specs.Prelude.{◌≡◌, length, take, IfOk, OnOk, OnErr};
+ghost use Rattle.std.specs.String.{string_bytes};
+ghost use Rattle.replay.specs.Part.{ReadsPart, expanded, repeated_from};
 
 use crate::faults::CaseError;
-use std::alloc::AllocError;
+use std::alloc::{AllocError, Global};
 
 // A part of a word: letters, and how often they are repeated.
 #[derive(Clone, Copy)]
@@ -25,10 +26,28 @@ impl<'a> TryFrom<&'a str> for Part<'a> {
     }
 }
 
+// What parts write: the letters of each, as often as it says. Letters that are to stand no times take no room either.
+#[tactic(auto, using(crate::proofs::Written::part_written, crate::proofs::Written::part_utf8))]
+pub fn expand(heap: Global, parts: &[Part<'_>]) -> Result<String, AllocError>
+    ensures { IfOk result (λ text. string_bytes text ≡ expanded parts.now) }
+{
+    let mut bytes = Vec::new(heap);
+    for part in parts {
+        if part.times == 0 {
+            continue;
+        }
+        let from = bytes.len();
+        bytes.extend_from_slice(part.letters.as_bytes())?;
+        repeat_from(&mut bytes, from, part.times)?;
+    }
+    // The letters of each part are UTF-8, so all bytes are.
+    Ok(String::from_utf8(bytes).unwrap())
+}
+
 // Makes what stands from a place on stand as often as it says: no times at all, and it is taken away. Where there is no memory,
 // what stood still stands, and some of its repeats may follow.
-pub fn expand(bytes: &mut Vec<u8>, from: usize, times: u32) -> Result<(), AllocError>
-    ensures ok { OnOk result (bytes.new.items ≡ expanded from times bytes.old.items) }
+pub fn repeat_from(bytes: &mut Vec<u8>, from: usize, times: u32) -> Result<(), AllocError>
+    ensures ok { OnOk result (bytes.new.items ≡ repeated_from from times bytes.old.items) }
     ensures err { OnErr result (take (length bytes.old.items) bytes.new.items ≡ bytes.old.items) }
 {
     let end = bytes.len();
@@ -49,7 +68,7 @@ pub fn expand(bytes: &mut Vec<u8>, from: usize, times: u32) -> Result<(), AllocE
 
 #[cfg(test)]
 mod tests {
-    use super::{Part, expand};
+    use super::{Part, expand, repeat_from};
     use std::test::Fail;
 
     #[test]
@@ -59,11 +78,23 @@ mod tests {
             Part::try_from("c")?,
             Part::try_from("d*0")?,
         ];
+        let text = expand(rt.alloc(), &parts)?;
+        assert_eq!(rt; text.as_str(), "abababc");
+        Ok(())
+    }
+
+    #[test]
+    fn repeats_bytes(rt: HostRuntime) -> Result<(), Fail> {
+        let parts = [
+            Part::try_from("ab*3")?,
+            Part::try_from("c")?,
+            Part::try_from("d*0")?,
+        ];
         let mut text = Vec::new(rt.alloc());
         for part in parts {
             let from = text.len();
             text.extend_from_slice(part.letters.as_bytes())?;
-            expand(&mut text, from, part.times)?;
+            repeat_from(&mut text, from, part.times)?;
         }
         assert_eq!(rt; text.as_slice(), b"abababc".as_slice());
         Ok(())

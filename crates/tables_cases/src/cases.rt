@@ -1,7 +1,7 @@
 // A case, as the words of a line write it.
 ghost use Rattle.std.specs.Prelude.{◌<◌, IfOk};
 
-use replay::{CaseError, Part, expand, next_word};
+use replay::{CaseError, Part, next_word, repeat_from};
 use std::alloc::Global;
 use tables::Limits;
 
@@ -42,7 +42,7 @@ fn bytes_of(heap: Global, word: &str) -> Result<Vec<u8>, CaseError> {
         if part.times > 0 {
             let from = bytes.len();
             add_hex(&mut bytes, part.letters)?;
-            expand(&mut bytes, from, part.times)?;
+            repeat_from(&mut bytes, from, part.times)?;
         }
     }
     Ok(bytes)

@@ -1,35 +1,12 @@
-use Rattle.std.proofs.Common.{◌-◌, arith, refl}
-use Rattle.replay.proofs.Repeats.{expanded_nothing, expanded_more, begins_more, part_within}
+use Rattle.std.proofs.Common.{[], ap, ◌∙◌}
+use Rattle.std.specs.Str.{is_utf8}
+use Rattle.std.proofs.lemmas.Str.{IsUtf8-nil, IsUtf8-from_is_utf8, is_utf8-from_IsUtf8}
 use Rattle.replay.proofs.parts.expand.Goals as goal
 
-pub overflow_mul-room : goal.overflow_mul-room
-overflow_mul-room c =
-    let last = c.loop-stands.invariant in
-    let within = part_within c.args.from c.loop-stands.stands c.min-more.result (c.len-end.result - c.args.from) _ _ (omega arith) (omega arith) (omega arith) last.grown in
-    omega arith
+pub loop-part-init : goal.loop-part-init
+loop-part-init c =
+    let none = c.new-bytes.ensures.items in
+    record { written = none; letters = ap is_utf8 none ∙ is_utf8-from_IsUtf8 [] IsUtf8-nil }
 
-pub overflow_add-from : goal.overflow_add-from
-overflow_add-from c =
-    let last = c.loop-stands.invariant in
-    let within = part_within c.args.from c.loop-stands.stands c.min-more.result (c.len-end.result - c.args.from) _ _ (omega arith) (omega arith) (omega arith) last.grown in
-    omega arith
-
-pub extend_from_within-requires-clause-in_bounds : goal.extend_from_within-requires-clause-in_bounds
-extend_from_within-requires-clause-in_bounds c =
-    let last = c.loop-stands.invariant in
-    let within = part_within c.args.from c.loop-stands.stands c.min-more.result (c.len-end.result - c.args.from) _ _ (omega arith) (omega arith) (omega arith) last.grown in
-    omega arith
-
-pub loop-stands-preserved : goal.loop-stands-preserved
-loop-stands-preserved c =
-    let last = c.loop-stands.invariant in
-    let added = c.in_ok-extend_from_within.ensures.items in
-    record {
-      grown = expanded_more _ _ _ _ _ _ _ _ (omega arith) (omega arith) refl (omega arith) last.grown added;
-      begins = begins_more _ _ _ _ last.begins added;
-      once = omega arith;
-      most = omega arith;
-    }
-
-pub returns-else-from-end-clause-ok : goal.returns-else-from-end-clause-ok
-returns-else-from-end-clause-ok c = expanded_nothing _ _ _ (omega arith)
+pub unwrap-requires : goal.unwrap-requires
+unwrap-requires c = c.from_utf8.ensures.succeeds (IsUtf8-from_is_utf8 _ c.loop-part.invariant.letters)

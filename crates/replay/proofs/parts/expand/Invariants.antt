@@ -1,15 +1,11 @@
-use Rattle.std.proofs.Common.{◌≡◌, ◌≤◌, ◌-◌, length, take}
+use Rattle.std.proofs.Common.{◌≡◌, take, true}
+use Rattle.std.specs.Str.{is_utf8}
 use Rattle.replay.specs.Part.{expanded}
 use Rattle.replay.proofs.parts.expand.Given as goal
 
--- What stood stands as often as the loop has come to, and first as it stood.
-abbrev pub invariant-loop-stands : goal.invariant-loop-stands
-invariant-loop-stands l = record {
-  grown : l.bytes.items ≡ expanded l.from l.stands l.fn.bytes.items;
-  begins : take (length l.fn.bytes.items) l.bytes.items ≡ l.fn.bytes.items;
-  once : 1 ≤ l.stands;
-  most : l.stands ≤ l.times;
+-- The parts so far are written, and all of them are letters.
+abbrev pub invariant-loop-part : goal.invariant-loop-part
+invariant-loop-part l = record {
+  written : l.bytes.items ≡ expanded (take l.part-index l.parts);
+  letters : is_utf8 l.bytes.items ≡ true;
 }
-
-abbrev pub decreases-loop-stands : goal.decreases-loop-stands
-decreases-loop-stands l = l.times - l.stands
