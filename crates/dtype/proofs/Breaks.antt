@@ -9,7 +9,8 @@ use Rattle.std.specs.Slice.Iter.{split_inclusive_rest, split_inclusive_callee}
 use Rattle.std.specs.declared.slice.SplitInclusive.{SplitInclusive}
 use denote.Param.Members.{Mut}
 use denote.Ref.{Bor}
-use Rattle.dtype.specs.Form.{◌>>=◌, place, onto, lines_of, OneLine, fields_of, form_of, forms_of}
+pub use Rattle.dtype.specs.Form.{OneLine}
+use Rattle.dtype.specs.Form.{◌>>=◌, place, onto, lines_of, fields_of, form_of, forms_of}
 use Rattle.kinds.proofs.Words.{never_some}
 use Rattle.dtype.proofs.Places.{Free, place_append, none_free, place_some, place_cases}
 
