@@ -1,4 +1,5 @@
-// What programs that replay cases share: why a line is no case, its words, and the parts of words: what they write, and bytes that are repeated.
+// What programs that replay cases share: why a line is no case, its words, and the parts of words, whose bytes are repeated; and the
+// text that parts write.
 #![tactic(auto)]
 
 mod faults;
